@@ -14,7 +14,7 @@ use Rattle.rules.specs.Change.{addAttribute, after}
 use Rattle.rules.specs.Refusal.{first, conditions}
 use Rattle.rules.specs.Outcome.{Answers}
 use Rattle.rules.proofs.DecodeLaws.{name-width, value-width}
-use Rattle.change_laws.proofs.Conditions.{not-past}
+use Rattle.change_laws.proofs.Conditions.{not-past, none-holds}
 use Rattle.codec.specs.Laid.{Laid}
 use Rattle.layout.specs.Bodies.{widthOf, Number, mostForm}
 use Rattle.layout.proofs.LayoutLaws.{width-within}
@@ -32,7 +32,6 @@ use Rattle.store_laws.proofs.FormLaws.{bareForm, FormOf, forms-of, within, good
 use Rattle.store_writer.proofs.FormAnswers.{form-answers, form-ceiling}
 use Rattle.store_check.proofs.StoreFacts.{Whole, whole, value-given}
 use Rattle.plans.specs.AttributeCalls.{attributesTo, addAttributePlan, attributeAdded}
-use Rattle.plans.proofs.CallsPlanned.{none-holds}
 use Rattle.plans.proofs.FormsAfter.{good-attribute, added-ceiling, added-form}
 use Rattle.plans.proofs.AttributeCallsPlanned.{add-attribute-planned}
 use Rattle.attribute_form.specs.Attributes.{To}

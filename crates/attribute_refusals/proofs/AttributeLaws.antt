@@ -20,14 +20,13 @@ use Rattle.rules.specs.Refusal.{conditions, badText, isOther, wrongDefault}
 use Rattle.lookup.specs.Bodies.{bodiesOf}
 use Rattle.layout.specs.Bodies.{WidthIn, Number, attributesIn}
 use Rattle.layout.proofs.LayoutLaws.{attributes-read}
-use Rattle.rules.proofs.BooleanLaws.{any-append}
+use Rattle.rules.proofs.BooleanLaws.{any-append, none-long}
 use Rattle.rules.proofs.DecodeLaws.{length-own}
-use Rattle.store_check.proofs.AttributeBlocks.{below-or}
+use Rattle.rules.proofs.Words.{below-or}
 use Rattle.store_laws.specs.Stores.{storeIn}
 use Rattle.store_check.proofs.StoreFacts.{formIn, Whole}
 use Rattle.change_laws.specs.FirstCondition.{Gives}
 use Rattle.change_laws.proofs.FirstCondition.{gives-hit, gives-next, gives-none}
-use Rattle.instance_search.proofs.TestLaws.{none-long}
 use Rattle.attribute_refusals.specs.OwnAttributes.{ownNamed}
 
 -- ---- attributes of a form

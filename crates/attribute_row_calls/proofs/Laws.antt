@@ -12,6 +12,8 @@ use Rattle.rules.specs.Change.{setAttribute, Owned}
 use Rattle.rules.specs.Decode.{attributeCount}
 use Rattle.rules.specs.Lines.{elementWith, findRow}
 use Rattle.rules.specs.Refusal.{first, conditions, rowsOf, isOther, unknownAttribute}
+use Rattle.rules.proofs.Words.{below-or}
+use Rattle.change_laws.proofs.Conditions.{none-holds}
 use Rattle.filling.specs.declared.Filling.the-variants.{Attribute}
 use Rattle.row_walk.specs.declared.Which.the-variants.{Serial}
 use Rattle.row_walk.specs.declared.Later.the-variants.{Past}
@@ -19,12 +21,10 @@ use Rattle.row_walk.specs.declared.Plan.{Plan}
 use Rattle.store_laws.specs.Stores.{storeIn}
 use Rattle.planned_rows.specs.Walking.{Sized}
 use Rattle.store_writer.proofs.CallLaws.{passed}
-use Rattle.store_check.proofs.AttributeBlocks.{below-or}
 use Rattle.document_refusals.specs.Finding.{AttributeRefused}
 use Rattle.store_check.proofs.StoreFacts.{value-given, Whole, whole}
 use Rattle.store_check.proofs.AttributeOwners.{unowned}
 use Rattle.plans.specs.CallPlans.{fillingPlan, settingPlan, attributeSerial, setAttributePlan}
-use Rattle.plans.proofs.CallsPlanned.{none-holds}
 use Rattle.call_laws.proofs.Calls.{unmoved-small, Asks}
 
 -- an attribute that is known has a small index

@@ -2,14 +2,14 @@
 use Prim.Native.Nat.{ℕ, _+_, _≤_, _<_}
 use native.Mathlib.Numerals.{add-one}
 use native.Mathlib.Omega.{arith}
-use mathlib.Core.Path.{_≡_, refl, sym, ap, ap₂, _∙_}
-use mathlib.Core.Bool.{Bool, true, false, _&&_, and-true, and-assoc}
-use mathlib.Core.List.{[], _∷_, _++_}
+use mathlib.Core.Path.{_≡_, sym, ap, ap₂, _∙_}
+use mathlib.Core.Bool.{Bool, true, false, _&&_, and-true}
 use lib.ListN.{length, take, drop, getD, length-drop, take-append-drop, drop-of-length-le}
 use lib.Seq.{drop-cons, take-all, take-add, take-take}
 use Rattle.rules.specs.Bytes.{Bytes, all}
 use Rattle.rules.proofs.Words.{and-split}
 use Rattle.byte_copy.proofs.CopyLaws.{eight-taken}
+use Rattle.rules.proofs.BooleanLaws.{all-append}
 
 -- ---- each byte
 module _ (p : ℕ → Bool) (bs : Bytes) (i : ℕ) where
@@ -27,14 +27,9 @@ module _ (p : ℕ → Bool) (bs : Bytes) (i : ℕ) where
 
 -- ---- eight bytes
 module _ (p : ℕ → Bool) where
-  -- of two strings
-  all-join : (xs ys : Bytes) → all p (xs ++ ys) ≡ (all p xs && all p ys)
-  all-join [] ys = refl
-  all-join (x ∷ xs) ys = ap (λ (b : Bool). p x && b) (all-join xs ys) ∙ sym (and-assoc (p x) (all p xs) (all p ys))
-
   -- of a string that is cut
   all-cut : (i : ℕ) (bs : Bytes) → all p bs ≡ (all p (take i bs) && all p (drop i bs))
-  all-cut i bs = ap (all p) (sym (take-append-drop i bs)) ∙ all-join (take i bs) (drop i bs)
+  all-cut i bs = ap (all p) (sym (take-append-drop i bs)) ∙ all-append p (take i bs) (drop i bs)
 
   pub eight-of : (bs : Bytes) (i : ℕ) → i + 8 ≤ length bs
       → (p (getD bs i 0)
@@ -47,7 +42,7 @@ module _ (p : ℕ → Bool) where
   -- what a loop that tests k bytes at a time has left, the first i having passed
   module _ (bs : Bytes) (i : ℕ) (inv : all p (take i bs) ≡ true) where
     pub part-on : (k : ℕ) {t : Bool} → t ≡ all p (take k (drop i bs)) → t ≡ true → all p (take (i + k) bs) ≡ true
-    part-on k e t = ap (all p) (take-add i k bs) ∙ all-join (take i bs) (take k (drop i bs)) ∙ ap₂ (λ (x y : Bool). x && y) inv (sym e ∙ t)
+    part-on k e t = ap (all p) (take-add i k bs) ∙ all-append p (take i bs) (take k (drop i bs)) ∙ ap₂ (λ (x y : Bool). x && y) inv (sym e ∙ t)
 
     pub part-off : (k : ℕ) {t : Bool} → t ≡ all p (take k (drop i bs)) → t ≡ false → false ≡ all p bs
     part-off k e t =

@@ -2,7 +2,7 @@
 use Prim.Native.Nat.{ℕ, _≤_, _<_}
 use mathlib.Core.Path.{_≡_, refl, sym, ap, _∙_}
 use mathlib.Core.Bool.{Bool, true, false, false≢true}
-use mathlib.Core.List.{List, [], _∷_, _++_}
+use mathlib.Core.List.{List, [], _∷_, _++_, append-nil}
 use lib.Dec.{leb, ltb}
 use lib.ListN.{length}
 use borrow.Author.Tests.{ltb-true, ltb-false, not-false}
@@ -57,6 +57,9 @@ conditions-numbered (destroyElement k) s = refl
 conditions-numbered (setAttribute k a v) s = refl
 conditions-numbered (destroyAttributeRow k a) s = refl
 conditions-numbered (setText k t) s = refl
+
+pub none-holds : (c : Call) (s : Store) → first (conditions c s) ≡ 0 → Unmet (conditions c s)
+none-holds c s e = first-append (conditions c s) [] (conditions-numbered c s) (ap first (append-nil (conditions c s)) ∙ e) .0
 
 module _ (room : ℕ) (c : Call) (s : Store) (accepted : refusal room c s ≡ 0) where
   none-held : Unmet (conditions c s) × (first (limits room (after c s)) ≡ 0)

@@ -4,7 +4,7 @@ use Prim.Native.Nat.{ℕ, _<_}
 use mathlib.Core.Path.{_≡_, refl, sym, ap, ap₂, _∙_}
 use mathlib.Core.Bool.{Bool, true, false, not, false≢true}
 use mathlib.Core.Option.{Option, none, some}
-use mathlib.Core.List.{List, [], _∷_, _++_, map}
+use mathlib.Core.List.{List, [], _∷_, map}
 use lib.ListN.{length}
 use Rattle.rules.specs.Bytes.{Bytes, same, bytes, same-eq, all, isNone}
 use Rattle.rules.specs.Model.{Distinct}
@@ -21,13 +21,9 @@ use Rattle.change_laws.proofs.Rowwise.{Standing, roots-changed, every-c
 use Rattle.change_laws.proofs.Untouched.{children-cut, same-row, children-kept}
 use Rattle.change_laws.proofs.Numbered.{mapped-elements}
 use Rattle.rules.proofs.ConformingLaws.{is-element}
-use Rattle.rules.proofs.BooleanLaws.{none-nil}
+use Rattle.rules.proofs.BooleanLaws.{none-nil, all-append}
 
 -- ---- the documents' own rows
-all-both : (test : Row → Bool) (a b : List Row) → all test a ≡ true → all test b ≡ true → all test (a ++ b) ≡ true
-all-both test [] b x y = y
-all-both test (r ∷ a) b x y = let (i, j) = and-split (test r) (all test a) x in and-both i (all-both test a b j y)
-
 all-kept : (test stays : Row → Bool) (rows : List Row) → all test rows ≡ true → all test (keep stays rows) ≡ true
 unfolding keep
 all-kept test stays [] e = refl
@@ -48,7 +44,7 @@ all-planted p test u true (r ∷ rows) f e =
     by (p .later u r) refl i (all-planted p test u false rows (λ z. absurd (false≢true z)) j) (all-planted p test u true rows f j)
   where
     by : (c : Bool) → p .later u r ≡ c → test r ≡ true → all test (plantRows p u false rows) ≡ true → all test (plantRows p u true rows) ≡ true → all test (plantRows p u true (r ∷ rows)) ≡ true
-    by true q i x y = rw (q, plantRows) (all-both test (heads (p .filling)) (r ∷ plantRows p u false rows) (f refl) (and-both i x))
+    by true q i x y = rw (q, plantRows) (all-append test (heads (p .filling)) (r ∷ plantRows p u false rows) ∙ and-both (f refl) (and-both i x))
     by false q i x y = rw (q, plantRows) (and-both i y)
 
 module _ (version : ℕ) (form form′ : Form) (p : Plan) (docs : Forest Row) where

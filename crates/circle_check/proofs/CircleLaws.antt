@@ -16,6 +16,7 @@ use Rattle.rules.specs.Decode.{nameAt}
 use Rattle.rules.specs.WellFormed.{definitionName, lookup, isThere, known, namesIn, membersOf, Reaches}
 use Rattle.rules.proofs.Height.{deep, member-known, height}
 use Rattle.rules.proofs.WellFormedLaws.{lookup-here, lookup-there}
+use Rattle.rules.proofs.BooleanLaws.{all-map}
 use Rattle.circle_check.specs.declared.Heights.{Heights}
 use Rattle.circle_check.specs.Deep.{deepIndex, Ranked}
 use Rattle.circle_check.proofs.RoundLaws.{deep-index-member, deep-index-known}
@@ -67,10 +68,6 @@ known-index (d ∷ form) n k = by (same n (d .name)) refl (known-index form n)
     by false e f =
         let (i, l, q) = f (sym (ap (λ (b : Bool). isThere {A = Definition} (elim b [ true ↦ some d | false ↦ lookup n form ])) e) ∙ k) in
         (suc i, omega arith, q)
-
-all-map : {A B : Type 0} (p : B → Bool) (f : A → B) (xs : List A) → all p (map f xs) ≡ all (λ x. p (f x)) xs
-all-map p f [] = refl
-all-map p f (x ∷ xs) = ap (λ (b : Bool). p (f x) && b) (all-map p f xs)
 
 all-alike : {A : Type 0} (p q : A → Bool) (xs : List A) → ((x : A) → List·Memᴰ x xs → p x ≡ q x) → all p xs ≡ all q xs
 all-alike p q [] h = refl

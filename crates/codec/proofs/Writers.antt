@@ -6,7 +6,7 @@ use native.Mathlib.Nat.{le-of-suc-le-suc, not-suc-le-zero, add-zero, zero-add, a
 use native.Mathlib.Omega.{arith}
 use native.Mathlib.Numerals.{add-one}
 use lib.ListN.{length, take, drop, getD, set, length-append, length-drop, drop-of-length-le}
-use lib.Seq.{sets, sets-eq, drop-cons, set-out, take-all}
+use lib.Seq.{sets, sets-eq, length-sets, drop-cons, set-out, take-all}
 use Rattle.codec.specs.Laid.{Laid}
 
 -- a loop that stores byte after byte: what is left to store gives the same end
@@ -64,3 +64,7 @@ laid-then {a} {b} {out} {at} p q =
 
 pub laid-as : {w w′ out : List ℕ} {at r : ℕ} {out′ : List ℕ} → w ≡ w′ → Laid w′ out at r out′ → Laid w out at r out′
 laid-as e p = rw e p
+
+-- a writer keeps the length of its buffer
+pub laid-long : {w out : List ℕ} {at r : ℕ} {out′ : List ℕ} → Laid w out at r out′ → length out′ ≡ length out
+laid-long {w} {out} {at} l = ap length (l .stored) ∙ length-sets out at w

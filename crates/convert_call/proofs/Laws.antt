@@ -15,10 +15,10 @@ use Rattle.rules.specs.Change.{convertToGroup, editModel, keeping, plan, formAf
 use Rattle.rules.specs.Refusal.{past, foundAt, noPlace, atPlace, first, conditions}
 use Rattle.change_laws.proofs.EditConditions.{has-some}
 use Rattle.store_laws.specs.Stores.{storeIn}
-use Rattle.plans.proofs.CallsPlanned.{none-holds}
 use Rattle.model_places.proofs.PlaceLaws.{found-convert}
 use Rattle.model_edit.proofs.Fits.{Fits, fits-at}
 use borrow.Author.Tests.{not-false}
+use Rattle.change_laws.proofs.Conditions.{none-holds}
 
 pub convert-form : (o : ℕ) (p : List ℕ) (n k : ℕ) (form : Form) → formAfter (convertToGroup o p n k) form ≡ editModel o p (convert (groupOf k) n) form
 unfolding formAfter

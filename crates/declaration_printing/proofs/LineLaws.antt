@@ -14,15 +14,15 @@ use Rattle.rules.specs.Preorder.{build}
 use Rattle.rules.specs.Layout.{attributeSize, FlatParticle, FlatAttribute}
 use Rattle.rules.specs.Decode.{nameAt, groupOf, sortOf, contentOf, memberOf, readMembers, ofOwner, readAttribute, readDefinition, attributeCount, definitionCount}
 use Rattle.rules.specs.Print.{escape, defaultTokens, memberTokens, modelTokens, contentTokens}
+use Rattle.rules.proofs.BooleanLaws.{concat-append}
 use Rattle.layout.specs.Bodies.{widthOf}
 use Rattle.codec.specs.Laid.{Laid}
-use Rattle.codec.proofs.Writers.{laid-none, laid-then, laid-as}
+use Rattle.codec.proofs.Writers.{laid-none, laid-then, laid-as, laid-long}
 use Rattle.lookup.proofs.Laws.{from-none}
 use Rattle.printing_parts.specs.Walking.{Passed}
 use Rattle.printing_parts.specs.Parts.{Named, definitionPart, attributePart, fromAttributes, particlesFrom, attributesFrom, namesOf, attributeNamesOf}
 use Rattle.declaration_printing.specs.Declarations.{LaidWithin, attributeRead, defaultText, attributeLineText, attributesText, isTree, membersText, contentText, definitionText}
-use Rattle.printing_parts.proofs.TextLaws.{concat-append}
-use Rattle.escaping.proofs.Laws.{laid-long, escape-length}
+use Rattle.escaping.proofs.Laws.{escape-length}
 use Rattle.printing_parts.proofs.PartLaws.{attribute-step, attribute-name, definition-name, value-short}
 
 -- ---- the default of an attribute

@@ -9,8 +9,8 @@ use Rattle.rules.specs.Store.{Forest, bare, tree}
 use Rattle.rules.specs.Layout.{FlatParticle}
 use Rattle.rules.specs.Decode.{readMembers, memberOf}
 use Rattle.rules.specs.Print.{memberTokens}
+use Rattle.rules.proofs.BooleanLaws.{concat-append}
 use Rattle.declaration_printing.specs.Declarations.{signText, membersText, memberBody, memberText}
-use Rattle.printing_parts.proofs.TextLaws.{concat-append}
 
 members-step : (ns : List Bytes) (k : GroupKind) (first : Bool) (p : FlatParticle) (b t : Forest FlatParticle) (s : ℕ)
     → concat (memberTokens k (signText k first) (memberOf ns p s (readMembers ns b) (readMembers ns t))) ≡ (signText k first ++ memberBody ns s p b) ++ membersText ns k false t

@@ -14,7 +14,7 @@ use Rattle.rules.specs.Decode.{definitionCount, rowCount}
 use Rattle.rules.specs.WellFormed.{withinCeilings, highestNumber}
 use Rattle.rules.specs.Passing.{passes}
 use Rattle.rules.proofs.Words.{and-both, and-split}
-use Rattle.rules.proofs.BooleanLaws.{all-left, all-right}
+use Rattle.rules.proofs.BooleanLaws.{all-left, all-right, all-append}
 use Rattle.rules.proofs.LayoutLaws.{length-flatBytes}
 use Rattle.layout.specs.Bodies.{widthOf, WidthIn, Number}
 use Rattle.lookup.specs.Bodies.{bodiesOf}
@@ -25,17 +25,18 @@ use Rattle.definition_removal.specs.Bodies.{lowered, cutOut, particlesUpTo, Cou
 use Rattle.definition_removal.proofs.Left.{definitions-left, rows-left}
 use Rattle.call_laws.specs.Limits.{Limit}
 use Rattle.call_laws.proofs.Limits.{limit-room, limit-none}
-use Rattle.store_check.proofs.FormGood.{all-append}
 
-all-map : {A : Type 0} (t : A → Bool) (m : A → A) → ((x : A) → t (m x) ≡ t x) → (xs : List A) → all t (map m xs) ≡ all t xs
-all-map t m e [] = refl
-all-map t m e (x ∷ xs) = ap₂ (λ (a b : Bool). a && b) (e x) (all-map t m e xs)
+all-mapped : {A : Type 0} (t : A → Bool) (m : A → A) → ((x : A) → t (m x) ≡ t x) → (xs : List A) → all t (map m xs) ≡ all t xs
+all-mapped t m e [] = refl
+all-mapped t m e (x ∷ xs) = ap₂ (λ (a b : Bool). a && b) (e x) (all-mapped t m e xs)
 
 all-moved : {A : Type 0} (t : A → Bool) (m : A → A) → ((x : A) → t (m x) ≡ t x) → (a n : ℕ) (xs : List A) → all t xs ≡ true → all t (map m (cutOut a n xs)) ≡ true
 unfolding cutOut
 all-moved t m e a n xs h =
-    all-map t m e (take a xs ++ drop (a + n) xs)
-    ∙ all-append t (take a xs) (drop (a + n) xs) (all-left t (take a xs) (drop a xs) (ap (all t) (take-append-drop a xs) ∙ h))
+    all-mapped t m e (take a xs ++ drop (a + n) xs)
+    ∙ all-append t (take a xs) (drop (a + n) xs)
+    ∙ and-both
+    (all-left t (take a xs) (drop a xs) (ap (all t) (take-append-drop a xs) ∙ h))
     (all-right t (take (a + n) xs) (drop (a + n) xs) (ap (all t) (take-append-drop (a + n) xs) ∙ h))
 
 module _ (bs : Bytes) (p : passes bs ≡ true) (i : ℕ) (h : i < definitionCount bs) where

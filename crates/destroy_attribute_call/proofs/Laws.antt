@@ -19,7 +19,6 @@ use Rattle.codec.specs.Laid.{Laid}
 use Rattle.layout.specs.Bodies.{widthOf, Number, mostForm}
 use Rattle.layout.proofs.LayoutLaws.{width-within}
 use Rattle.lookup.specs.Bodies.{bodiesOf}
-use Rattle.store_check.proofs.AttributeBlocks.{below-or}
 use Rattle.row_walk.specs.declared.Plan.{Plan}
 use Rattle.store_laws.specs.Stores.{storeIn}
 use Rattle.store_writer.specs.Writing.{limited}
@@ -34,7 +33,6 @@ use Rattle.store_writer.proofs.FormAnswers.{form-answers}
 use Rattle.store_check.proofs.StoreFacts.{Whole, whole}
 use Rattle.store_check.proofs.AttributeOwners.{unowned}
 use Rattle.plans.specs.AttributeCalls.{ownerAt, destroyAttributePlan, attributeDropped}
-use Rattle.plans.proofs.CallsPlanned.{none-holds}
 use Rattle.plans.proofs.FormsAfter.{dropped-form}
 use Rattle.plans.proofs.AttributeCallsPlanned.{destroy-attribute-planned}
 use Rattle.attribute_form.proofs.FormParts.{fits, front-laid}
@@ -42,6 +40,8 @@ use Rattle.attribute_form.proofs.CountLaws.{count-definitions, count-particles,
 use Rattle.attribute_writer.specs.Attributes.{Droppable}
 use Rattle.destroy_attribute_call.specs.Dropped.{dropped}
 use Rattle.rules.proofs.WellFormedLaws.{none-value}
+use Rattle.rules.proofs.Words.{below-or}
+use Rattle.change_laws.proofs.Conditions.{none-holds}
 
 -- ---- no condition holds
 module _ (bs : Bytes) {b : Bool} {m : ℕ} (h : not b ≡ false) (e : b ≡ passes bs) where

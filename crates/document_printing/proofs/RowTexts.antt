@@ -7,8 +7,8 @@ use Rattle.rules.specs.Store.{RowSort, element, attribute, text, Forest, bare, 
 use Rattle.rules.specs.Layout.{FlatRow}
 use Rattle.rules.specs.Decode.{rowSortOf, rowName, readRows}
 use Rattle.rules.specs.Print.{rowTokens, documentLines, Tokens}
+use Rattle.rules.proofs.BooleanLaws.{concat-append}
 use Rattle.document_printing.specs.Documents.{endText, rowsText, elementText, rowBodyText, rowText, stays, documentsText}
-use Rattle.printing_parts.proofs.TextLaws.{concat-append}
 
 rows-step : (ns cs : List Bytes) (opened : Bool) (x : FlatRow) (b t : Forest FlatRow) (s : RowSort)
     → concat (rowTokens (endText opened)

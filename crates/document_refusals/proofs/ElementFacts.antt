@@ -18,7 +18,7 @@ use Rattle.rules.specs.Conforming.{isElement, isText, ElementRows, RowConforms}
 use Rattle.rules.specs.Change.{definitionAt}
 use Rattle.rules.specs.Lines.{Line, lines, elementWith, findRow, childrenOf}
 use Rattle.rules.specs.Refusal.{rowsOf, noElement}
-use Rattle.rules.proofs.Words.{or-cases, and-both, and-split}
+use Rattle.rules.proofs.Words.{or-cases, and-both, and-split, below-or}
 use Rattle.rules.proofs.BooleanLaws.{any-in}
 use Rattle.change_laws.proofs.RowEdits.{keep}
 use Rattle.change_laws.proofs.Rowwise.{Standing}
@@ -28,7 +28,6 @@ use Rattle.change_laws.proofs.StandingLaws.{serialOf, standing-every, standing-
 use Rattle.layout.specs.Bodies.{widthOf, treeRowsIn}
 use Rattle.lookup.proofs.Laws.{from-step, from-none, some-same}
 use Rattle.store_check.proofs.IndexLaws.{Indexed, known-index}
-use Rattle.store_check.proofs.AttributeBlocks.{below-or}
 use Rattle.store_check.proofs.AttributeRows.{rowWritten}
 use Rattle.store_laws.specs.Stores.{storeIn}
 use Rattle.document_refusals.specs.Finding.{Begins, ElementRowAt, ParentAt, children, elementRowWith, isThis, isParent, Test, seek, serialIn, childrenAt}

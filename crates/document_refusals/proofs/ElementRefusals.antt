@@ -24,7 +24,6 @@ use Rattle.change_laws.proofs.Conditions.{not-past}
 use Rattle.change_laws.proofs.Untouched.{keep-in}
 use Rattle.change_laws.proofs.StandingLaws.{serialOf, standing-child, standing-every, no-zero, children-are}
 use Rattle.model.specs.Steps.{runs}
-use Rattle.store_check.proofs.AttributeBlocks.{below-or}
 use Rattle.store_check.proofs.IndexLaws.{name-of}
 use Rattle.store_laws.specs.Stores.{storeIn}
 use Rattle.document_refusals.specs.Finding.{ElementRowAt, ParentAt, childrenAt, modelAt, rowDefinitionKind, fitsAt, hasPlace, serialIn, word}
@@ -37,6 +36,7 @@ use Rattle.document_refusals.proofs.IndexWords.{AllPlain, Named, word-l
 use Rattle.change_laws.proofs.FirstCondition.{gives-hit, gives-next, gives-none}
 use Rattle.document_refusals.proofs.RefusalLaws.{kind-is}
 use Rattle.rules.proofs.ConformingLaws.{is-element}
+use Rattle.rules.proofs.Words.{below-or}
 
 keep-is : (test : Row → Bool) (rows : List Row) (r : Row) → List·Memᴰ r (keep test rows) → test r ≡ true
 unfolding keep

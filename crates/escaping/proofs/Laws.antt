@@ -8,15 +8,11 @@ use native.Mathlib.Numerals.{add-one}
 use borrow.Author.Tests.{ne-eqb}
 use lib.Dec.{eqb}
 use lib.ListN.{length, drop, getD, length-append, drop-of-length-le}
-use lib.Seq.{length-sets, drop-cons}
+use lib.Seq.{drop-cons}
 use Rattle.rules.specs.Bytes.{Bytes, ascii}
 use Rattle.rules.specs.Print.{escapeByte, escape}
 use Rattle.codec.specs.Laid.{Laid}
-use Rattle.codec.proofs.Writers.{laid-none, laid-then, laid-as}
-
--- a writer keeps the length of its buffer
-pub laid-long : {w out : Bytes} {at r : ℕ} {out′ : Bytes} → Laid w out at r out′ → length out′ ≡ length out
-laid-long {w} {out} {at} l = ap length (l .stored) ∙ length-sets out at w
+use Rattle.codec.proofs.Writers.{laid-none, laid-then, laid-as, laid-long}
 
 -- an escape, by the four tests
 abbrev escapeBy : ℕ → Bool → Bool → Bool → Bool → Bytes

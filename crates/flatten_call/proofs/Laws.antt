@@ -14,9 +14,9 @@ use Rattle.rules.specs.Passing.{passes}
 use Rattle.rules.specs.Change.{flattenGroup, editModel, keeping, plan, formAfter}
 use Rattle.rules.specs.Refusal.{past, foundAt, noGroupAt, onGroup, first, conditions}
 use Rattle.change_laws.proofs.EditConditions.{group-some}
+use Rattle.change_laws.proofs.Conditions.{none-holds}
 use Rattle.model_writer.specs.PartAfter.{suits}
 use Rattle.store_laws.specs.Stores.{storeIn}
-use Rattle.plans.proofs.CallsPlanned.{none-holds}
 use Rattle.model_places.proofs.PlaceLaws.{found-flatten}
 use Rattle.model_edit.proofs.Fits.{Fits, fits-at}
 

@@ -9,12 +9,13 @@ use lib.Dec.{eqb, leb, ltb}
 use lib.ListN.{length, take, drop, length-drop}
 use lib.Seq.{drop-drop}
 use borrow.Author.Tests.{eq-eqb, ne-eqb, le-leb, lt-leb, leb-true, eqb-true, eqb-false, not-true, not-false}
-use Rattle.rules.specs.Bytes.{Bytes, numbers, all, any, isNone, and-left, and-right}
+use Rattle.rules.specs.Bytes.{Bytes, numbers, all, any, and-left, and-right}
 use Rattle.rules.specs.Model.{member, distinct}
 use Rattle.rules.specs.Store.{Forest, heads}
 use Rattle.rules.specs.Preorder.{Deep, build}
 use Rattle.rules.specs.Layout.{particleSize, FlatParticle, FlatDefinition}
 use Rattle.rules.proofs.PreorderLaws.{rising, build-same, build-less, build-more}
+use Rattle.rules.proofs.BooleanLaws.{none-long}
 use Rattle.codec.specs.Part.{partOf}
 use Rattle.form_check.specs.FormTests.{particleFits, shaped, elementsIn, modelFits, modelsFit}
 use Rattle.form_check.specs.Bodies.{particlesRead, apart, sameElement, countFits, countBeside, stands, walks}
@@ -82,10 +83,6 @@ unfolding walks
 walks-end n d e = rw e
 
 -- ---- every particle of rising depths is in the tree
-none-count : {A : Type 0} (l : List A) → isNone l ≡ eqb (length l) 0
-none-count [] = refl
-none-count (x ∷ l) = sym (ne-eqb (suc (length l)) 0 (λ e. omega arith))
-
 fits-count : (n : ℕ) (p : FlatParticle) (below : List FlatParticle) → particleFits n p below ≡ countFits n p (length below)
 unfolding countFits
 fits-count n p below =
@@ -93,7 +90,7 @@ fits-count n p below =
     (λ (b : Bool).
     leb (p .quantifier) 3
     && elim (eqb (p .sort) 0) [ true ↦ ltb (p .index) n && b | false ↦ leb (p .sort) 2 && (eqb (p .index) (length below) && not b) ])
-    (none-count below)
+    (sym (none-long below))
 
 -- every particle with its members
 each : ℕ → List (Deep FlatParticle) → Bool
@@ -236,7 +233,7 @@ module _ (n p at : ℕ) (ps : List (Deep FlatParticle)) (hp : length ps ≡ p) {
 
 pub models-end : (n p at : ℕ) (ps : List (Deep FlatParticle)) → length ps ≡ p → at ≤ p → {ds : List FlatDefinition} → ds ≡ [] → modelsFit n ds (drop at ps) ≡ eqb at p
 unfolding modelsFit
-models-end n p at ps hp h e = rw (e, modelsFit) (none-count (drop at ps) ∙ rw (length-drop at ps, hp) (by (eqb at p) refl))
+models-end n p at ps hp h e = rw (e, modelsFit) (sym (none-long (drop at ps)) ∙ rw (length-drop at ps, hp) (by (eqb at p) refl))
   where
     by : (b : Bool) → eqb at p ≡ b → eqb (p - at) 0 ≡ b
     by true q = let z : at ≡ p = eqb-true at p q in eq-eqb (p - at) 0 (omega arith)

@@ -20,7 +20,7 @@ use Rattle.rules.specs.Change.{insertElement, definitionAt, nameAtIndex, formAf
 use Rattle.rules.specs.Refusal.{past, foundAt, noPlace, isComplex, first, conditions}
 use Rattle.rules.specs.Outcome.{outcome, Answers}
 use Rattle.rules.proofs.Words.{or-split}
-use Rattle.change_laws.proofs.Conditions.{not-past}
+use Rattle.change_laws.proofs.Conditions.{not-past, none-holds}
 use Rattle.change_laws.proofs.EditConditions.{complex-content}
 use Rattle.model.specs.declared.place.Holder.{Holder}
 use Rattle.layout.specs.Bodies.{widthOf}
@@ -37,7 +37,6 @@ use Rattle.planned_rows.specs.Walking.{Sized}
 use Rattle.store_laws.proofs.StoreLaws.{holds}
 use Rattle.store_writer.proofs.CallLaws.{answers-equal}
 use Rattle.plans.specs.ModelCalls.{insertElementPlan}
-use Rattle.plans.proofs.CallsPlanned.{none-holds}
 use Rattle.plans.proofs.ModelCallsPlanned.{insert-element-planned}
 use Rattle.model_places.specs.Placing.{indexOfName, partIn, Placed}
 use Rattle.store_check.proofs.StoreFacts.{value-given}

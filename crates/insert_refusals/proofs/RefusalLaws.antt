@@ -21,6 +21,8 @@ use Rattle.rules.specs.WellFormed.{isValue}
 use Rattle.rules.specs.Passing.{passes}
 use Rattle.rules.specs.Change.{insertElement, definitionAt, nameAtIndex}
 use Rattle.rules.specs.Refusal.{Condition, _if_, first, conditions, past, foundAt, atPlace, noPlace, isComplex, instanceExists}
+use Rattle.rules.proofs.Words.{test-is}
+use Rattle.rules.proofs.BooleanLaws.{none-long}
 use Rattle.layout.specs.Bodies.{widthOf, WidthIn, Number, definitionsIn, treeRowsIn}
 use Rattle.model.specs.declared.place.Holder.{Holder}
 use Rattle.model.specs.declared.place.Found.{Found}
@@ -33,7 +35,6 @@ use Rattle.change_laws.specs.FirstCondition.{Gives}
 use Rattle.change_laws.proofs.FirstCondition.{gives-hit, gives-next, gives-none}
 use Rattle.instance_search.specs.Instances.{instanceRow}
 use Rattle.model_places.specs.Placing.{modelIn, partIn, foundBy, Placed}
-use Rattle.instance_search.proofs.TestLaws.{test-is, none-long}
 use Rattle.instance_search.proofs.InstanceLaws.{instance-is}
 use Rattle.model_places.proofs.PlaceLaws.{found-insert, absent, present-at}
 use Rattle.model_reach.specs.Reach.{standsInModel, comesRound}

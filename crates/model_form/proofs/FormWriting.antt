@@ -3,7 +3,7 @@ use Prim.Native.Nat.{ℕ, suc, _+_, _-_, _*_, _<_, _≤_}
 use native.Mathlib.Omega.{arith}
 use mathlib.Core.Path.{_≡_, refl, sym, ap, ap₂, _∙_, subst}
 use mathlib.Core.Bool.{Bool, true, false, _&&_, false≢true}
-use mathlib.Core.List.{List, [], _∷_, _++_}
+use mathlib.Core.List.{_++_}
 use lib.Dec.{leb}
 use lib.ListN.{length, take, drop, take-append-drop, length-append, length-drop}
 use lib.Seq.{length-take-le, length-sets, sets-eq, take-append-seam}
@@ -14,8 +14,9 @@ use Rattle.rules.specs.Preorder.{Deep}
 use Rattle.rules.specs.Layout.{particleSize, definitionSize, attributeSize, FlatParticle, FlatStore, definitionBytes, particleBytes, attributeBytes, each}
 use Rattle.rules.specs.Decode.{definitionCount, particleCount, attributeCount}
 use Rattle.rules.specs.WellFormed.{withinCeilings}
-use Rattle.rules.proofs.BooleanLaws.{all-left, all-right}
+use Rattle.rules.proofs.BooleanLaws.{all-left, all-right, all-append}
 use Rattle.rules.proofs.LayoutLaws.{length-each, length-definition, length-particle, length-attribute}
+use Rattle.rules.proofs.Words.{and-held}
 use Rattle.codec.specs.Laid.{Laid}
 use Rattle.codec.proofs.Writers.{laid-then, laid-as}
 use Rattle.codec.proofs.Strings.{part-there}
@@ -47,18 +48,6 @@ use Rattle.model_form.proofs.OwnParts.{start-is, count-is, own-is, part
 use Rattle.model_writer.proofs.BodyWriting.{one-more}
 
 -- ---- tests
-all-append : {A : Type 0} (t : A → Bool) (xs ys : List A) → all t xs ≡ true → all t (xs ++ ys) ≡ all t ys
-all-append t [] ys h = refl
-all-append t (x ∷ xs) ys h = by (t x) h (all-append t xs ys)
-  where
-    by : (b : Bool) → (b && all t xs) ≡ true → (all t xs ≡ true → all t (xs ++ ys) ≡ all t ys) → (b && all t (xs ++ ys)) ≡ all t ys
-    by true h f = f h
-    by false h f = absurd (false≢true h)
-
-all-before : {A : Type 0} (t : A → Bool) (xs ys : List A) → all t ys ≡ true → all t (xs ++ ys) ≡ all t xs
-all-before t [] ys h = h
-all-before t (x ∷ xs) ys h = ap (λ (b : Bool). t x && b) (all-before t xs ys h)
-
 middle : (a b c d : Bool) → a ≡ true → d ≡ true → (a && (b && (c && (d && true)))) ≡ (b && c)
 middle true true true true x y = refl
 middle true true false true x y = refl
@@ -132,7 +121,9 @@ module _ {bs : Bytes} {o : ℕ} {e : Edit ℕ} {h : Holder} {n : ℕ} (v : Edits
       let ps : Particles = f .particles in
       let front : all low (take a ps) ≡ true = all-left low (take a ps) (drop a ps) (ap (all low) (take-append-drop a ps) ∙ few .depths) in
       let back : all low (drop (a + k) ps) ≡ true = all-right low (take (a + k) ps) (drop (a + k) ps) (ap (all low) (take-append-drop (a + k) ps) ∙ few .depths) in
-      ap (all low) particles-after ∙ all-append low (take a ps) (partEdited bs o e h n ++ drop (a + k) ps) front ∙ all-before low (partEdited bs o e h n) (drop (a + k) ps) back
+      let rest : all low (partEdited bs o e h n ++ drop (a + k) ps) ≡ all low (partEdited bs o e h n) =
+      all-append low (partEdited bs o e h n) (drop (a + k) ps) ∙ and-held (all low (partEdited bs o e h n)) (all low (drop (a + k) ps)) back in
+      ap (all low) particles-after ∙ all-append low (take a ps) (partEdited bs o e h n ++ drop (a + k) ps) ∙ ap₂ (λ (x y : Bool). x && y) front rest
 
   definitions-few : leb (length (g .definitions)) 64 ≡ true
   unfolding formEdited splicedForm

@@ -11,14 +11,11 @@ use Rattle.rules.specs.Bytes.{Bytes, same, all, any}
 use Rattle.rules.specs.Store.{Form}
 use Rattle.rules.specs.Decode.{nameAt}
 use Rattle.rules.specs.WellFormed.{definitionName, membersOf, Reaches, reaches, reachesIn}
+use Rattle.rules.proofs.BooleanLaws.{any-map}
 use Rattle.circle_check.specs.Deep.{deepIndex, hasHeight}
 use Rattle.circle_check.specs.Avoiding.{membersAvoiding, Avoids}
 use Rattle.circle_check.proofs.RoundLaws.{deep-index-member, deep-past}
 use Rattle.circle_check.proofs.CircleLaws.{Indexed, members-named, fit-acyclic}
-
-any-map : {A B : Type 0} (p : B → Bool) (f : A → B) (xs : List A) → any p (map f xs) ≡ any (λ x. p (f x)) xs
-any-map p f [] = refl
-any-map p f (x ∷ xs) = ap (λ (b : Bool). p (f x) || b) (any-map p f xs)
 
 not-or : (a b : Bool) → (not a && not b) ≡ not (a || b)
 not-or true b = refl

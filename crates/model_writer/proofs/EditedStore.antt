@@ -15,7 +15,7 @@ use Rattle.rules.specs.Store.{complex, Form, Store, members}
 use Rattle.rules.specs.Preorder.{flatten}
 use Rattle.rules.specs.Layout.{FlatStore, indexOf, particleBytes, each, particles, contentParticles, flatDefinition, allParticles, flat, particleSize}
 use Rattle.rules.specs.Change.{definitionAt, editModel}
-use Rattle.rules.proofs.BooleanLaws.{Every}
+use Rattle.rules.proofs.BooleanLaws.{Every, every-left, every-right}
 use Rattle.rules.proofs.LayoutLaws.{SmallParticle}
 use Rattle.change_laws.proofs.ModelAfter.{place-right}
 use Rattle.rules.proofs.RenamingPlaces.{plug-rename}
@@ -33,7 +33,7 @@ use Rattle.model_writer.proofs.FormAfter.{reformed, form-after}
 use Rattle.model_writer.proofs.HeadAfter.{start-before}
 use Rattle.model_writer.proofs.PartAfter.{place-here, edited-part, suits-named}
 use Rattle.model_writer.proofs.BodyWriting.{length-after}
-use Rattle.model_writer.proofs.HeadWriting.{each-take, each-drop, length-bytes, every-front, every-back}
+use Rattle.model_writer.proofs.HeadWriting.{each-take, each-drop, length-bytes}
 
 -- ---- where a definition's particles stand
 own-part : (form : Form) (o : ℕ) (ds : Form) (ms : Members Bytes) → o < length ds → definitionAt o ds .content ≡ complex ms
@@ -159,8 +159,8 @@ module _ (s : Store) (o : ℕ) (p : List ℕ) (e : Edit Bytes) (x : Spot Bytes) 
                 after = omega (arith, ap (λ (z : Holder). z .start) starts, stands, start-before context);
                 inside = omega (arith, own-long, stands, offset-inside context (rename index (x .picked)));
                 fitting =
-                    every-front SmallParticle new (drop (first + many) (flat s .particles))
-                    (every-back SmallParticle (take first (flat s .particles)) (new ++ drop (first + many) (flat s .particles))
+                    every-left SmallParticle new (drop (first + many) (flat s .particles))
+                    (every-right SmallParticle (take first (flat s .particles)) (new ++ drop (first + many) (flat s .particles))
                     (subst (λ (xs : Particles). Every SmallParticle xs) (ap (λ (z : FlatStore). z .particles) edit-flat) small));
               };
         }

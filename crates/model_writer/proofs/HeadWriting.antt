@@ -2,7 +2,7 @@
 use Prim.Native.Nat.{ℕ, zero, suc, _+_, _-_, _*_, _%_, _<_, _≤_}
 use native.Mathlib.Omega.{arith}
 use mathlib.Core.Path.{_≡_, refl, sym, ap, ap₂, _∙_, subst}
-use mathlib.Core.List.{List, [], _∷_, _++_}
+use mathlib.Core.List.{[], _∷_, _++_}
 use lib.ListN.{length, take, drop, getD, length-take, length-drop}
 use lib.Seq.{take-nil, drop-nil, drop-cons}
 use Rattle.rules.specs.Bytes.{Bytes}
@@ -10,7 +10,7 @@ use Rattle.rules.specs.Preorder.{Deep}
 use Rattle.rules.specs.Layout.{FlatParticle, particleBytes, each, particleSize}
 use Rattle.rules.specs.Decode.{readParticle}
 use Rattle.rules.specs.Edit.{Edit}
-use Rattle.rules.proofs.BooleanLaws.{Every}
+use Rattle.rules.proofs.BooleanLaws.{Every, every-left, every-right}
 use Rattle.rules.proofs.LayoutLaws.{SmallParticle, length-each, length-particle}
 use Rattle.codec.specs.Laid.{Laid}
 use Rattle.model.specs.declared.place.Holder.{Holder}
@@ -55,14 +55,6 @@ each-drop (suc n) (x ∷ xs) = ap (λ (k : ℕ). drop k (each particleBytes (x �
 
 pub length-bytes : (xs : Particles) → length (each particleBytes xs) ≡ particleSize * length xs
 length-bytes xs = length-each particleBytes particleSize length-particle xs
-
-pub every-front : {A : Type 0} (P : A → Type 0) (xs ys : List A) → Every P (xs ++ ys) → Every P xs
-every-front P [] ys h = tt
-every-front P (x ∷ xs) ys h = (h .0, every-front P xs ys (h .1))
-
-pub every-back : {A : Type 0} (P : A → Type 0) (xs ys : List A) → Every P (xs ++ ys) → Every P ys
-every-back P [] ys h = h
-every-back P (x ∷ xs) ys h = every-back P xs ys (h .1)
 
 -- ---- the group that holds the place
 recounted-at : (g : ℕ → ℕ) (s n : ℕ) (xs : Particles) → s < n → n ≤ length xs
@@ -147,7 +139,7 @@ module _ {e : Edit ℕ} {first n : ℕ} {part : Bytes} {at : ℕ} (v : Head e fi
   pub head-count : 0 < first → newCount (readParticle (take particleSize (drop (particleSize * (first - 1)) part)) .row .index) < 256
   unfolding Fitting
   head-count l =
-      every-back SmallParticle (take (first - 1) (particlesOf part)) _ (subst (λ (xs : Particles). Every SmallParticle xs) (head-is l) (v .fitting)) .0 .index
+      every-right SmallParticle (take (first - 1) (particlesOf part)) _ (subst (λ (xs : Particles). Every SmallParticle xs) (head-is l) (v .fitting)) .0 .index
 
   -- .. as the code has them: x the group, ys the particles from the place on
   module _ (l : 0 < first) {x ys : Bytes} (p : x ≡ take particleSize (drop (particleSize * (first - 1)) part)) (q : ys ≡ drop (particleSize * n) part) where
@@ -174,7 +166,7 @@ module _ {e : Edit ℕ} {h : Holder} {n : ℕ} {part : Bytes} (v : Part e h n pa
         room = omega (arith, few);
         after = v .after;
         inside = v .inside;
-        fitting = every-front SmallParticle (recounted (countAfter e (drop n (particlesOf part))) (h .start) (take n (particlesOf part))) _ (v .fitting);
+        fitting = every-left SmallParticle (recounted (countAfter e (drop n (particlesOf part))) (h .start) (take n (particlesOf part))) _ (v .fitting);
       }
 
   pub part-tail : {at : ℕ} → at + 2 * length part < 4611686018427387904 → {out : Bytes} {r : ℕ} {out′ : Bytes}
@@ -194,7 +186,7 @@ module _ {e : Edit ℕ} {h : Holder} {n : ℕ} {part : Bytes} (v : Part e h n pa
           length-take n (particlesOf part),
           length-part part (v .whole),
         );
-        fitting = rw (particles-past n part) (every-back SmallParticle front _ (v .fitting));
+        fitting = rw (particles-past n part) (every-right SmallParticle front _ (v .fitting));
       }
     where
       g : ℕ → ℕ

@@ -28,7 +28,7 @@ use Rattle.rules.specs.Change as change
 use Rattle.rules.proofs.Words.{and-both, and-split}
 use Rattle.rules.proofs.TestLaws.{member-test}
 use Rattle.rules.proofs.PassingLaws.{good-is}
-use Rattle.change_laws.proofs.Conditions.{not-past}
+use Rattle.change_laws.proofs.Conditions.{not-past, none-holds}
 use Rattle.change_laws.proofs.Rowwise.{Standing}
 use Rattle.change_laws.proofs.FormLaws.{attribute-owned, owner-at, owner-below}
 use Rattle.store_check.proofs.AttributeReads.{sort-back}
@@ -54,7 +54,7 @@ use Rattle.plans.proofs.AttributeShifts.{index-kept, index-new, offset-
 use Rattle.plans.proofs.AttributeBodies.{definitions-kept, particles-kept, attributes-added, attributes-dropped, owner-read, attributes-to}
 use Rattle.plans.proofs.OwnedRows.{Owns, each-owned}
 use Rattle.plans.proofs.DocumentPlans.{given}
-use Rattle.plans.proofs.CallsPlanned.{none-holds, owned-there}
+use Rattle.plans.proofs.CallsPlanned.{owned-there}
 use Rattle.plans.proofs.Instances.{element-test, apart-instances}
 
 pub and-swap : (a b : Bool) → (a && b) ≡ (b && a)

@@ -1,10 +1,10 @@
 -- THE STORE AFTER CHANGES 11 TO 16, where no condition of the refusal
 -- table holds: the bodies after the plan by indices.
 use Prim.Native.Nat.{ℕ}
-use mathlib.Core.Path.{_≡_, refl, sym, ap, _∙_, subst}
+use mathlib.Core.Path.{_≡_, refl, sym, subst}
 use mathlib.Core.Bool.{Bool, true, false, false≢true}
 use mathlib.Core.Option.{Option, none, some}
-use mathlib.Core.List.{[], append-nil}
+use mathlib.Core.List.{[]}
 use lib.Dec.{eqb}
 use Rattle.rules.specs.Bytes.{Bytes}
 use Rattle.rules.specs.Store.{Row, Forest, Store}
@@ -12,9 +12,9 @@ use Rattle.rules.specs.Layout.{FlatRow, indexed, flat}
 use Rattle.rules.specs.Lines.{lines, elementWith, attributeNamed, findRow, childrenOf, serialAt}
 use Rattle.rules.specs.Passing.{good}
 use Rattle.rules.specs.Refusal.{first, isOther, conditions}
-use Rattle.rules.specs.Change.{Call, addDocument, addElement, destroyElement, setAttribute, destroyAttributeRow, setText, Owned, attributeAt, formAfter, after}
+use Rattle.rules.specs.Change.{addDocument, addElement, destroyElement, setAttribute, destroyAttributeRow, setText, Owned, attributeAt, formAfter, after}
 use Rattle.rules.proofs.PassingLaws.{good-is}
-use Rattle.change_laws.proofs.Conditions.{not-past, Unmet, first-append, conditions-numbered}
+use Rattle.change_laws.proofs.Conditions.{not-past, none-holds}
 use Rattle.filling.specs.declared.Filling.the-variants.{Attribute}
 use Rattle.row_walk.specs.declared.Which.the-variants.{Serial}
 use Rattle.row_walk.specs.declared.Later.the-variants.{Past}
@@ -29,9 +29,6 @@ use Rattle.plans.proofs.Planned.{flat-planned}
 use Rattle.plans.proofs.ApartLaws.{apart-serial}
 use Rattle.plans.proofs.DocumentPlans.{add-document-does, add-element-does, destroy-element-does, set-text-does}
 use Rattle.plans.proofs.AttributePlans.{set-attribute-does, destroy-attribute-row-does}
-
-pub none-holds : (c : Call) (s : Store) → first (conditions c s) ≡ 0 → Unmet (conditions c s)
-none-holds c s e = first-append (conditions c s) [] (conditions-numbered c s) (ap first (append-nil (conditions c s)) ∙ e) .0
 
 -- an attribute that is not unknown is there
 pub owned-there : (x : Option Owned) (r : Option Row) → isOther x r ≡ false → (o : Owned) × (x ≡ some o)

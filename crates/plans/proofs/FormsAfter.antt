@@ -10,7 +10,7 @@ use borrow.Author.Tests.{le-leb}
 use Rattle.rules.specs.Bytes.{Bytes}
 use Rattle.rules.specs.Layout.{FlatDefinition, FlatAttribute, FlatStore, definitionBytes, particleBytes, attributeBytes, each}
 use Rattle.rules.specs.WellFormed.{isName, isValue, withinCeilings}
-use Rattle.rules.proofs.BooleanLaws.{Every, every-append}
+use Rattle.rules.proofs.BooleanLaws.{Every, every-append, every-take, every-drop}
 use Rattle.rules.proofs.LayoutLaws.{GoodFlatDefinition, GoodFlatAttribute, GoodFlat}
 use Rattle.rules.proofs.DecodeLaws.{name-width, value-width}
 use Rattle.model.specs.Places.{Particles}
@@ -19,18 +19,6 @@ use Rattle.store_laws.specs.Forms.{formBytes}
 use Rattle.store_laws.proofs.FormBytesLaws.{Few, few-of, few-particles, few-attributes}
 use Rattle.store_laws.proofs.FormLaws.{bareForm, FormOf}
 use Rattle.plans.specs.AttributeCalls.{attributesReplaced, attributeAdded, attributeDropped}
-
--- ---- lists
-module _ {A : Type 0} (P : A → Type 0) where
-  every-take : (k : ℕ) (xs : List A) → Every P xs → Every P (take k xs)
-  every-take zero xs a = tt
-  every-take (suc k) [] a = tt
-  every-take (suc k) (x ∷ xs) a = (a .0, every-take k xs (a .1))
-
-  every-drop : (k : ℕ) (xs : List A) → Every P xs → Every P (drop k xs)
-  every-drop zero xs a = a
-  every-drop (suc k) [] a = tt
-  every-drop (suc k) (x ∷ xs) a = every-drop k xs (a .1)
 
 -- ---- 3 to 8: definition o with other particles
 pub counted-length : (o n : ℕ) (ds : List FlatDefinition) → length (counted o n ds) ≡ length ds

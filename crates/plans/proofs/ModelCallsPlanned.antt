@@ -19,13 +19,12 @@ use Rattle.rules.specs.Passing.{good}
 use Rattle.rules.specs.Refusal.{past, first, conditions}
 use Rattle.rules.specs.Change.{insertElement, removeElement, changeQuantifier, changeGroupQuantifier, definitionAt, nameAtIndex, formAfter, after}
 use Rattle.rules.proofs.Words.{or-split}
-use Rattle.change_laws.proofs.Conditions.{not-past}
+use Rattle.change_laws.proofs.Conditions.{not-past, none-holds}
 use Rattle.filling.specs.declared.Filling.the-variants.{Definition, Particles}
 use Rattle.planned_rows.specs.Planned.{membersAt, plannedIn}
 use Rattle.plans.specs.Bodies.{HoldsForm}
 use Rattle.plans.specs.ModelCalls.{Marked, insertElementPlan, removeElementPlan, requantifyPlan}
 use Rattle.plans.proofs.FormPlanned.{flat-planned-in}
-use Rattle.plans.proofs.CallsPlanned.{none-holds}
 use Rattle.plans.proofs.AttributeCallsPlanned.{clear-elements}
 use Rattle.plans.proofs.MemberPlans.{insert-element-does, remove-element-does}
 use Rattle.plans.proofs.QuantifierPlans.{change-quantifier-does, change-group-quantifier-does}

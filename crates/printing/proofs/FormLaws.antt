@@ -17,16 +17,15 @@ use Rattle.rules.specs.Print.{contentTokens, attributeLines, formLines, documen
 use Rattle.rules.specs.Store.{Store}
 use Rattle.rules.proofs.DecodeLaws.{read-good, unflat-flat, good-known, good-found, GoodParts, good-parts}
 use Rattle.rules.specs.Passing.{readStore}
+use Rattle.rules.proofs.BooleanLaws.{concat-append, lines-append}
 use Rattle.layout.specs.Bodies.{widthOf}
 use Rattle.codec.specs.Laid.{Laid}
-use Rattle.codec.proofs.Writers.{laid-none, laid-then, laid-as}
+use Rattle.codec.proofs.Writers.{laid-none, laid-then, laid-as, laid-long}
 use Rattle.lookup.specs.Bodies.{recordsFrom, bodiesOf, fromRows, RowsOf, rowsFrom}
 use Rattle.lookup.proofs.Laws.{from-none, from-all, bodies-flat}
 use Rattle.printing_parts.specs.Parts.{Named, definitionPart, fromDefinitions, fromParticles, fromAttributes, definitionsFrom, particlesFrom, attributesFrom, namesOf, attributeNamesOf}
 use Rattle.declaration_printing.specs.Declarations.{LaidWithin, attributesText, contentText, definitionText}
 use Rattle.printing.specs.Texts.{Within, declarationsText, formText, textOf}
-use Rattle.printing_parts.proofs.TextLaws.{concat-append, lines-append}
-use Rattle.escaping.proofs.Laws.{laid-long}
 use Rattle.printing_parts.proofs.PartLaws.{definition-name, definition-step}
 use Rattle.codec.proofs.Records.{length-many}
 use Rattle.document_printing.specs.Documents.{documentsText}

@@ -10,8 +10,7 @@ use Rattle.rules.specs.Store.{Forest, bare, tree}
 use Rattle.rules.specs.Preorder.{Deep, build}
 use Rattle.rules.proofs.PreorderLaws.{build-same, build-less, build-more}
 use Rattle.codec.specs.Laid.{Laid}
-use Rattle.codec.proofs.Writers.{laid-none, laid-then, laid-as}
-use Rattle.escaping.proofs.Laws.{laid-long}
+use Rattle.codec.proofs.Writers.{laid-none, laid-then, laid-as, laid-long}
 use Rattle.printing_parts.specs.Walking.{Passed, Stepped}
 
 -- ---- the loop

@@ -19,9 +19,9 @@ use Rattle.rules.specs.Change.{changeQuantifier, changeGroupQuantifier}
 use Rattle.rules.specs.Refusal.{badText, past, foundAt, noElementAt, noGroupAt, onElement, onGroup, first, conditions}
 use Rattle.layout.specs.Bodies.{widthOf}
 use Rattle.change_laws.proofs.EditConditions.{element-some, group-some}
+use Rattle.change_laws.proofs.Conditions.{none-holds}
 use Rattle.model_writer.specs.PartAfter.{suits}
 use Rattle.store_laws.specs.Stores.{storeIn}
-use Rattle.plans.proofs.CallsPlanned.{none-holds}
 use Rattle.store_check.proofs.StoreFacts.{value-given}
 use Rattle.model_places.specs.Placing.{modelIn}
 use Rattle.model_places.proofs.PlaceLaws.{found-quantify}

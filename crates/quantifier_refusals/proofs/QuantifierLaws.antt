@@ -19,6 +19,8 @@ use Rattle.rules.specs.Place.{Context, Found as Spot, spine}
 use Rattle.rules.specs.Edit.{quantify, quantifyOff, quantifyGroupOff}
 use Rattle.rules.specs.Change.{nameAtIndex}
 use Rattle.rules.specs.Refusal.{_if_, Condition, first, conditions, badText, foundAt, noElementAt, noGroupAt, atPlace, onElement, onGroup, instanceExists}
+use Rattle.rules.proofs.Words.{and-off, and-held}
+use Rattle.rules.proofs.BooleanLaws.{none-long}
 use Rattle.model.specs.declared.place.Holder.{Holder}
 use Rattle.layout.specs.Bodies.{WidthIn, Number}
 use Rattle.store_laws.specs.Stores.{storeIn}
@@ -28,7 +30,6 @@ use Rattle.change_laws.proofs.FirstCondition.{gives-hit, gives-next, gives-none
 use Rattle.instance_search.specs.Instances.{hasInstance}
 use Rattle.model_places.specs.Placing.{modelIn, foundBy, ElementAt, GroupAt}
 use Rattle.quantifier_refusals.specs.Requantifying.{isOff, earlyTests, quantifierTests, requantify}
-use Rattle.instance_search.proofs.TestLaws.{and-off, and-held, none-long}
 use Rattle.model_places.proofs.PlaceLaws.{found-quantify}
 use Rattle.instance_search.proofs.InstanceLaws.{instance-is}
 

@@ -10,7 +10,7 @@ use lib.Dec.{eqb, leb, ltb, eqb·suc-zero}
 use lib.ListN.{length, take, drop, getD, drop-of-length-le, List·getD-eq-default}
 use lib.Seq.{drop-drop}
 use borrow.Author.Tests.{le-leb, lt-leb, leb-true, leb-false, ne-eqb}
-use Rattle.rules.specs.Bytes.{Bytes, all, isNone}
+use Rattle.rules.specs.Bytes.{Bytes, all}
 use Rattle.rules.specs.Layout.{nameWidth, headerSize, definitionSize, particleSize, attributeSize, rowSize}
 use Rattle.rules.specs.WellFormed.{startsName, inName, storedName, isValue, isFill}
 use Rattle.rules.specs.Decode.{numberAt, readDefinition, readAttribute, readRow, definitionCount, particleCount, attributeCount, rowCount, sized, sortOf}
@@ -31,10 +31,6 @@ name-none (x ∷ xs) e = absurd (omega arith)
 pub name-some : (bs : Bytes) → (length bs ≡ 0 → ⊥) → storedName bs ≡ (startsName (getD bs 0 0) && all inName (drop 1 bs) && leb (length bs) nameWidth)
 name-some [] h = absurd (h refl)
 name-some (x ∷ xs) h = refl
-
-pub none-length : (bs : Bytes) → isNone bs ≡ eqb (length bs) 0
-none-length [] = refl
-none-length (x ∷ xs) = sym (eqb·suc-zero (length xs))
 
 pub filled-wide : (bs : Bytes) (at l width : ℕ) → width < l → filled bs at l width ≡ false
 filled-wide bs at l width h = rw (lt-leb l width h)

@@ -18,7 +18,7 @@ use Rattle.rules.specs.Layout.{definitionBytes, particleBytes, attributeBytes, 
 use Rattle.rules.specs.Decode.{unle, numberAt, readDefinition, readParticle, readAttribute, readRow, readMany, sortOf}
 use Rattle.rules.specs.WellFormed.{startsName, inName, storedName, isValue, isFill}
 use Rattle.rules.proofs.Words.{and-both, and-split}
-use Rattle.rules.proofs.BooleanLaws.{Every}
+use Rattle.rules.proofs.BooleanLaws.{Every, every-take, every-drop}
 use Rattle.rules.proofs.LayoutLaws.{Small, unle-le, length-field, take-field}
 use Rattle.byte_check.specs.Zeros.{zeros}
 use Rattle.layout.specs.Fields.{definitionNameAt, definitionKindAt, definitionParticlesAt, particleSortAt, particleQuantifierAt, particleIndexAt}
@@ -30,16 +30,6 @@ use Rattle.rules.proofs.DecodeLaws.{value-width}
 -- ---- bytes
 abbrev IsByte : ℕ → Type 0
 IsByte b = b < 256
-
-every-take : (P : ℕ → Type 0) (k : ℕ) (bs : Bytes) → Every P bs → Every P (take k bs)
-every-take P zero bs a = tt
-every-take P (suc k) [] a = tt
-every-take P (suc k) (b ∷ bs) a = (a .0, every-take P k bs (a .1))
-
-every-drop : (P : ℕ → Type 0) (k : ℕ) (bs : Bytes) → Every P bs → Every P (drop k bs)
-every-drop P zero bs a = a
-every-drop P (suc k) [] a = tt
-every-drop P (suc k) (b ∷ bs) a = every-drop P k bs (a .1)
 
 pub small-take : (k : ℕ) {bs : Bytes} → Small bs → Small (take k bs)
 small-take k {bs} a = record { small = every-take IsByte k bs (a .small) }

@@ -17,6 +17,7 @@ use Rattle.rules.specs.Change.{removeElement, formAfter}
 use Rattle.rules.specs.Refusal.{past, foundAt, noElementAt, onElement, first, conditions}
 use Rattle.rules.specs.Outcome.{outcome, Answers}
 use Rattle.change_laws.proofs.EditConditions.{element-some}
+use Rattle.change_laws.proofs.Conditions.{none-holds}
 use Rattle.model.specs.declared.place.Holder.{Holder}
 use Rattle.lookup.specs.Bodies.{bodiesOf}
 use Rattle.row_walk.specs.declared.Plan.{Plan}
@@ -29,7 +30,6 @@ use Rattle.planned_rows.specs.Walking.{Sized}
 use Rattle.store_laws.proofs.StoreLaws.{holds}
 use Rattle.store_writer.proofs.CallLaws.{answers-equal}
 use Rattle.plans.specs.ModelCalls.{removeElementPlan}
-use Rattle.plans.proofs.CallsPlanned.{none-holds}
 use Rattle.plans.proofs.ModelCallsPlanned.{remove-element-planned}
 use Rattle.model_places.specs.Placing.{indexOfName, partIn, Placed}
 use Rattle.model_places.proofs.PlaceLaws.{found-remove}

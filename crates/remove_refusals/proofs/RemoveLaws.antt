@@ -26,7 +26,7 @@ use Rattle.rules.specs.Edit.{_⊕_, sameKind, remove, removeLast, removeUnmatch
 use Rattle.rules.specs.Change.{removeElement}
 use Rattle.rules.specs.Refusal.{_if_, first, conditions, foundAt, noElementAt, atPlace, onElement, tailOf}
 use Rattle.rules.proofs.AroundLaws.{opens, leaves, unlessList, last-is, unmatched-is}
-use Rattle.rules.proofs.Words.{or-left, or-right}
+use Rattle.rules.proofs.Words.{or-left, or-right, and-held}
 use Rattle.rules.proofs.RenamingPlaces.{leaves-rename}
 use Rattle.model.specs.declared.place.Holder.{Holder}
 use Rattle.model.specs.declared.Particle.{Particle}
@@ -46,7 +46,6 @@ use Rattle.change_laws.proofs.FirstCondition.{gives-hit, gives-next, gives-none
 use Rattle.instance_search.specs.Instances.{hasInstance}
 use Rattle.model_places.specs.Placing.{indexOfName, modelIn, partIn, foundBy, ElementAt, GroupAt}
 use Rattle.remove_refusals.specs.Removing.{choiceLeft, Removable, removeTests}
-use Rattle.instance_search.proofs.TestLaws.{and-held}
 use Rattle.model_places.proofs.PlaceLaws.{found-remove}
 use Rattle.model_places.proofs.PickLaws.{around, from-there, one-there, read-there, part-few}
 use Rattle.instance_search.proofs.InstanceLaws.{instance-is}

@@ -1,4 +1,3 @@
-pub mod Depths
 pub mod MachineLaws
 pub mod Attributes
 pub mod Children

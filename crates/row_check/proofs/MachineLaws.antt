@@ -12,11 +12,10 @@ use borrow.Author.Tests.{lt-ltb, le-leb, ltb-true, leb-true}
 use Rattle.rules.specs.Store.{Forest, heads}
 use Rattle.rules.specs.Preorder.{Deep, flatten, build}
 use Rattle.rules.proofs.Words.{and-both, and-split}
-use Rattle.rules.proofs.PreorderLaws.{rising, build-flatten, flatten-build, build-less, build-more}
+use Rattle.rules.proofs.PreorderLaws.{rising, build-flatten, flatten-build, build-less, build-more, flatten-rises, build-same}
 use Rattle.next_row.specs.Automaton.{Automaton}
 use Rattle.row_step.specs.Machine.{rowsRun, Fine, levelsEnd, opened, machine}
 use Rattle.form_table.proofs.Numbers.{Side, below, at, above, side, every→, every←}
-use Rattle.row_check.proofs.Depths.{build-same, flatten-rises}
 
 -- all rows stand at depths below b
 abbrev pub Within : {A : Type 0} → ℕ → List (Deep A) → Type 0
@@ -77,8 +76,8 @@ module _ {A S : Type 0} (m : Automaton A S) (none : S) where
                 let v = o (x .depth) (omega arith) in
                 let w = o (suc (x .depth)) (omega arith) in
                 record {
-                  row = rw (s, build-same x xs) (and-both u (rw at-row at (v .row)));
-                  fine = rw (s, build-same x xs) (rw at-inside at (w .row), w .fine, v .fine);
+                  row = rw (s, build-same x xs (x .depth) refl) (and-both u (rw at-row at (v .row)));
+                  fine = rw (s, build-same x xs (x .depth) refl) (rw at-inside at (w .row), w .fine, v .fine);
                 }
             by (above s) =
                 record {
@@ -90,11 +89,11 @@ module _ {A S : Type 0} (m : Automaton A S) (none : S) where
         module _ (o : Owed l (x .depth) (x ∷ xs)) where
           of-row : (m .may (getD l (x .depth) none) (x .row) && rowsRun m (m .next (getD l (x .depth) none) (x .row)) (heads (build xs (x .depth)))) ≡ true
           unfolding rowsRun
-          of-row = rw (build-same x xs) at (o .row)
+          of-row = rw (build-same x xs (x .depth) refl) at (o .row)
 
           of-fine : (rowsRun m (m .enter (x .row)) (heads (build xs (suc (x .depth)))) ≡ true) × Fine m (build xs (suc (x .depth))) × Fine m (build xs (x .depth))
           unfolding Fine
-          of-fine = rw (build-same x xs) at (o .fine)
+          of-fine = rw (build-same x xs (x .depth) refl) at (o .fine)
 
           of-may : m .may (getD l (x .depth) none) (x .row) ≡ true
           of-may = and-split (m .may (getD l (x .depth) none) (x .row)) (rowsRun m (m .next (getD l (x .depth) none) (x .row)) (heads (build xs (x .depth)))) of-row .0

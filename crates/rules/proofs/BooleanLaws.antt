@@ -1,12 +1,15 @@
 -- Facts on tests over lists: entry by entry, by membership, and of a value behind a test.
-use Prim.Native.Nat.{ℕ}
+use Prim.Native.Nat.{ℕ, zero, suc}
 use native.Mathlib.Omega.{arith}
 use mathlib.Core.Path.{_≡_, refl, ap, sym, _∙_}
 use mathlib.Core.Logic.{⊎-elim}
-use mathlib.Core.Bool.{Bool, true, false, _||_, false≢true}
+use mathlib.Core.Bool.{Bool, true, false, _&&_, _||_, false≢true, and-assoc}
 use mathlib.Core.Option.{Option, none, some}
-use mathlib.Core.List.{List, [], _∷_, _++_, List·Memᴰ, List·Memᴰ·head, List·Memᴰ·tail, List·Memᴰ·not-nil, List·Memᴰ·cases-cons}
-use Rattle.rules.specs.Bytes.{Bytes, same, bytes, all, any, isNone, and-left, and-right}
+use mathlib.Core.List.{List, [], _∷_, _++_, map, append-assoc, map-append, List·Memᴰ, List·Memᴰ·head, List·Memᴰ·tail, List·Memᴰ·not-nil, List·Memᴰ·cases-cons}
+use lib.Dec.{eqb}
+use lib.ListN.{length, take, drop}
+use borrow.Author.Tests.{ne-eqb}
+use Rattle.rules.specs.Bytes.{Bytes, same, bytes, all, any, concat, isNone, and-left, and-right}
 use Rattle.rules.specs.Model.{member}
 use Rattle.rules.proofs.Words.{and-both, and-split, or-left, or-right, or-cases}
 
@@ -26,6 +29,24 @@ every-map P Q (x ∷ xs) f a = (f x (a .0), every-map P Q xs f (a .1))
 pub every-append : {A : Type 0} (P : A → Type 0) (xs ys : List A) → Every P xs → Every P ys → Every P (xs ++ ys)
 every-append P [] ys a b = b
 every-append P (x ∷ xs) ys a b = (a .0, every-append P xs ys (a .1) b)
+
+pub every-left : {A : Type 0} (P : A → Type 0) (xs ys : List A) → Every P (xs ++ ys) → Every P xs
+every-left P [] ys a = tt
+every-left P (x ∷ xs) ys a = (a .0, every-left P xs ys (a .1))
+
+pub every-right : {A : Type 0} (P : A → Type 0) (xs ys : List A) → Every P (xs ++ ys) → Every P ys
+every-right P [] ys a = a
+every-right P (x ∷ xs) ys a = every-right P xs ys (a .1)
+
+pub every-take : {A : Type 0} (P : A → Type 0) (k : ℕ) (xs : List A) → Every P xs → Every P (take k xs)
+every-take P zero xs a = tt
+every-take P (suc k) [] a = tt
+every-take P (suc k) (x ∷ xs) a = (a .0, every-take P k xs (a .1))
+
+pub every-drop : {A : Type 0} (P : A → Type 0) (k : ℕ) (xs : List A) → Every P xs → Every P (drop k xs)
+every-drop P zero xs a = a
+every-drop P (suc k) [] a = tt
+every-drop P (suc k) (x ∷ xs) a = every-drop P k xs (a .1)
 
 pub every-zip : {A : Type 0} (P Q R : A → Type 0) (xs : List A) → ((x : A) → P x → Q x → R x) → Every P xs → Every Q xs → Every R xs
 every-zip P Q R [] f a b = tt
@@ -70,9 +91,21 @@ pub any-more : {A : Type 0} (p q : A → Bool) (xs : List A) → ((x : A) → p 
 any-more p q [] f h = h
 any-more p q (x ∷ xs) f h = ⊎-elim (λ e. or-left (any q xs) (f x e)) (λ k. or-right (q x) (any-more p q xs f k)) (or-cases (p x) (any p xs) h)
 
+pub all-map : {A B : Type 0} (p : B → Bool) (f : A → B) (xs : List A) → all p (map f xs) ≡ all (λ x. p (f x)) xs
+all-map p f [] = refl
+all-map p f (x ∷ xs) = ap (λ (b : Bool). p (f x) && b) (all-map p f xs)
+
+pub any-map : {A B : Type 0} (p : B → Bool) (f : A → B) (xs : List A) → any p (map f xs) ≡ any (λ x. p (f x)) xs
+any-map p f [] = refl
+any-map p f (x ∷ xs) = ap (λ (b : Bool). p (f x) || b) (any-map p f xs)
+
 pub none-nil : {A : Type 0} (xs : List A) → isNone xs ≡ true → xs ≡ []
 none-nil [] h = refl
 none-nil (x ∷ xs) h = absurd (false≢true h)
+
+pub none-long : {A : Type 0} (xs : List A) → eqb (length xs) 0 ≡ isNone xs
+none-long [] = refl
+none-long (x ∷ xs) = ne-eqb (suc (length xs)) 0 (λ e. omega arith)
 
 -- a value behind a test is there if and only if the test holds
 pub guard-true : {A : Type 0} (b : Bool) (o : Option A) → b ≡ true → elim b [ true ↦ o | false ↦ none ] ≡ o
@@ -84,6 +117,10 @@ guard-some true o x h = (refl, h)
 guard-some false o x h = let e : _≡_ {A = ℕ} 0 1 = cc in absurd (omega arith)
 
 -- ---- of two lists
+pub all-append : {A : Type 0} (p : A → Bool) (xs ys : List A) → all p (xs ++ ys) ≡ (all p xs && all p ys)
+all-append p [] ys = refl
+all-append p (x ∷ xs) ys = ap (λ (b : Bool). p x && b) (all-append p xs ys) ∙ sym (and-assoc (p x) (all p xs) (all p ys))
+
 pub any-append : {A : Type 0} (p : A → Bool) (xs ys : List A) → any p (xs ++ ys) ≡ (any p xs || any p ys)
 any-append p [] ys = refl
 any-append p (x ∷ xs) ys = by (p x) (any-append p xs ys)
@@ -101,3 +138,11 @@ member-append n (x ∷ xs) ys = by (same n x) (member-append n xs ys)
         → elim b as (λ z. Bool) [ true ↦ true | false ↦ member bytes n (xs ++ ys) ] ≡ (elim b as (λ z. Bool) [ true ↦ true | false ↦ member bytes n xs ] || member bytes n ys)
     by true e = refl
     by false e = e
+
+-- ---- of many lists, one after the other
+pub concat-append : {A : Type 0} (xs ys : List (List A)) → concat (xs ++ ys) ≡ concat xs ++ concat ys
+concat-append [] ys = refl
+concat-append (x ∷ xs) ys = ap (λ (l : List _). x ++ l) (concat-append xs ys) ∙ sym (append-assoc x (concat xs) (concat ys))
+
+pub lines-append : (xs ys : List (List Bytes)) → concat (map concat (xs ++ ys)) ≡ concat (map concat xs) ++ concat (map concat ys)
+lines-append xs ys = ap concat (map-append concat xs ys) ∙ concat-append (map concat xs) (map concat ys)

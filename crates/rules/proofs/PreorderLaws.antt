@@ -1,12 +1,12 @@
 -- `build` undoes `flatten`, and `flatten` undoes `build` on rows whose depths rise by one at most.
 use Prim.Native.Nat.{ℕ, zero, suc, _+_, _-_, _≤_, _<_}
 use native.Mathlib.Omega.{arith}
-use mathlib.Core.Path.{_≡_, refl, ap, ap₂, _∙_, sym}
+use mathlib.Core.Path.{_≡_, refl, ap, ap₂, _∙_, sym, subst}
 use mathlib.Core.Bool.{Bool, true, _&&_}
 use mathlib.Core.List.{List, [], _∷_, _++_, append-assoc, append-nil}
 use lib.Dec.{leb}
-use borrow.Author.Tests.{lt-ltb, le-ltb, eq-eqb, ne-eqb, leb-true}
-use Rattle.rules.specs.Bytes.{and-left, and-right}
+use borrow.Author.Tests.{lt-ltb, le-ltb, eq-eqb, ne-eqb, le-leb, leb-true}
+use Rattle.rules.specs.Bytes.{and-left, and-right, and-both}
 use Rattle.rules.specs.Store.{Forest, bare, tree, _⧺_}
 use Rattle.rules.specs.Preorder.{Deep, flatten, build}
 
@@ -60,6 +60,23 @@ module _ {A : Type 0} where
   abbrev pub rising : ℕ → List (Deep A) → Bool
   rising d [] = true
   rising d (x ∷ xs) = leb (x .depth) d && rising (suc (x .depth)) xs
+
+  -- the rows of a forest rise, after a row of any depth at least theirs
+  Low : ℕ → List (Deep A) → Type 0
+  Low d rest = (n : ℕ) → d ≤ n → rising n rest ≡ true
+
+  rising-flatten : (d : ℕ) (f : Forest A) (rest : List (Deep A)) → Low d rest → Low d (flatten d f ++ rest)
+  unfolding Low
+  rising-flatten d bare rest h n l = h n l
+  rising-flatten d (tree r b t) rest h n l =
+      and-both (le-leb d n l)
+      (subst (λ (u : List (Deep A)). rising (suc d) u ≡ true) (sym (append-assoc (flatten (suc d) b) (flatten d t) rest))
+      (rising-flatten (suc d) b (flatten d t ++ rest) (λ k j. rising-flatten d t rest h k (omega arith)) (suc d) (omega arith)))
+
+  pub flatten-rises : (f : Forest A) → rising 0 (flatten 0 f) ≡ true
+  unfolding Low
+  flatten-rises f =
+      subst (λ (u : List (Deep A)). rising 0 u ≡ true) (append-nil (flatten 0 f)) (rising-flatten 0 f [] (λ n l. refl) 0 (omega arith))
 
   -- the forests at every depth below d, the deepest first
   under : ℕ → List (Deep A) → List (Deep A)

@@ -1,8 +1,11 @@
 -- A word that is one of L and then one of M, by its first letter; and facts on tests.
-use mathlib.Core.Path.{_≡_, refl, sym, ap}
+use Prim.Native.Nat.{ℕ, _<_, _≤_}
+use mathlib.Core.Path.{_≡_, refl, sym, ap, _∙_}
 use mathlib.Core.Logic.{_⊎_, inl, inr}
-use mathlib.Core.Bool.{Bool, true, false, _&&_, _||_, false≢true}
+use mathlib.Core.Bool.{Bool, true, false, not, _&&_, _||_, false≢true}
 use mathlib.Core.List.{List, [], _∷_, cons≢nil, head-eq-of-cons-eq, tail-eq-of-cons-eq}
+use lib.Dec.{ltb}
+use borrow.Author.Tests.{ltb-true, ltb-false}
 pub use Rattle.rules.specs.Bytes.{and-both}
 use Rattle.rules.specs.Language.{Language, Then}
 
@@ -51,11 +54,26 @@ pub and-off : (a b : Bool) → b ≡ false → (a && b) ≡ false
 and-off true b e = e
 and-off false b e = refl
 
+-- a test that is another one
+pub test-is : {a b c : Bool} → a ≡ b → a ≡ c → b ≡ c
+test-is e h = sym e ∙ h
+
+pub not-is : {a b c : Bool} → a ≡ b → not a ≡ c → not b ≡ c
+not-is e h = ap not (sym e) ∙ h
+
 -- two tests that hold in the same cases
 pub same-truth : (a b : Bool) → (a ≡ true → b ≡ true) → (b ≡ true → a ≡ true) → a ≡ b
 same-truth true b f g = sym (f refl)
 same-truth false true f g = g refl
 same-truth false false f g = refl
+
+-- a number is below another one, or it is not
+pub below-or : (a b : ℕ) → (a < b) ⊎ (b ≤ a)
+below-or a b = by (ltb a b) refl
+  where
+    by : (c : Bool) → ltb a b ≡ c → (a < b) ⊎ (b ≤ a)
+    by true q = inl (ltb-true a b q)
+    by false q = inr (ltb-false a b q)
 
 pub either : {A B C D : Type 0} → (A → C) → (B → D) → A ⊎ B → C ⊎ D
 either f g (inl x) = inl (f x)

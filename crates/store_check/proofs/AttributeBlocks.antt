@@ -5,11 +5,8 @@ use native.Mathlib.Nat.{eq-or-lt-of-le}
 use native.Mathlib.Omega.{arith}
 use mathlib.Core.Path.{_≡_, refl, ap, _∙_, sym, subst}
 use mathlib.Core.Logic.{_⊎_, inl, inr, ⊎-elim}
-use mathlib.Core.Bool.{Bool, true, false}
 use mathlib.Core.List.{List, [], _∷_, _++_, map, List·Memᴰ, List·Memᴰ·head, List·Memᴰ·tail, Memᴰ·cast}
-use lib.Dec.{ltb}
 use lib.ListN.{length, length-append, length-map}
-use borrow.Author.Tests.{ltb-true, ltb-false}
 use Rattle.rules.specs.Bytes.{Bytes, bytes, same-refl}
 use Rattle.rules.specs.Model.{Distinct}
 use Rattle.rules.specs.Store.{AttributeSort, Attribute, Form}
@@ -20,17 +17,11 @@ use Rattle.rules.specs.Conforming.{mustBePresent, allows}
 use Rattle.rules.specs.Change.{definitionAt}
 use Rattle.rules.proofs.Apart.{differs}
 use Rattle.rules.proofs.DecodeLaws.{attributeNames, length-own, sort-code}
+use Rattle.rules.proofs.Words.{below-or}
 use Rattle.form_index.specs.Indices.{IndexForm}
 use Rattle.store_check.specs.Reading.{entryOf, Agrees}
 use Rattle.store_check.proofs.IndexLaws.{namesOf, name-in, later-name}
 use Rattle.store_check.proofs.AttributeReads.{own-owners, all-owners}
-
-pub below-or : (a b : ℕ) → (a < b) ⊎ (b ≤ a)
-below-or a b = by (ltb a b) refl
-  where
-    by : (c : Bool) → ltb a b ≡ c → (a < b) ⊎ (b ≤ a)
-    by true q = inl (ltb-true a b q)
-    by false q = inr (ltb-false a b q)
 
 -- ---- the index of an attribute of an owner
 index-own : (table : List Attribute) → Distinct (map attributeName table) → (k : ℕ) → k < length table → indexIn (nameAt k (map attributeName table)) table ≡ k

@@ -12,7 +12,7 @@ use Rattle.rules.specs.Layout.{ownAttributes, allAttributes}
 use Rattle.rules.specs.Decode.{attributeCount}
 use Rattle.rules.specs.Change.{Owned, entryAt, attributeAt}
 use Rattle.rules.proofs.DecodeLaws.{length-own}
-use Rattle.store_check.proofs.AttributeBlocks.{below-or}
+use Rattle.rules.proofs.Words.{below-or}
 use Rattle.store_check.proofs.StoreFacts.{formIn, Whole}
 
 entry-some : (i : ℕ) (table : List Attribute) → i < length table → (a : Attribute) × (entryAt i table ≡ some a)

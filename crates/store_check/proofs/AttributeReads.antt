@@ -17,20 +17,12 @@ use Rattle.rules.specs.Layout.{FlatDefinition, FlatParticle, FlatAttribute, sor
 use Rattle.rules.specs.Decode.{sortOf, ofOwner, readForm}
 use Rattle.rules.specs.WellFormed.{attributeName, storedName, isValue, isFill, isAttributeOf}
 use Rattle.rules.proofs.Words.{and-both, and-split}
-use Rattle.rules.proofs.BooleanLaws.{Every, every-append, every-map}
+use Rattle.rules.proofs.BooleanLaws.{Every, every-append, every-map, every-right}
 use Rattle.rules.proofs.TestLaws.{any-test, not-test}
 use Rattle.form_check.specs.FormTests.{ownersRise, clashes, attributesApart}
 use Rattle.store_check.specs.Reading.{AttributeFits}
 use Rattle.records.proofs.StringLaws.{sort-few}
 use Rattle.rules.proofs.DecodeLaws.{sort-code}
-
-pub every-right : {A : Type 0} (P : A → Type 0) (xs ys : List A) → Every P (xs ++ ys) → Every P ys
-every-right P [] ys a = a
-every-right P (x ∷ xs) ys a = every-right P xs ys (a .1)
-
-pub every-left : {A : Type 0} (P : A → Type 0) (xs ys : List A) → Every P (xs ++ ys) → Every P xs
-every-left P [] ys a = tt
-every-left P (x ∷ xs) ys a = (a .0, every-left P xs ys (a .1))
 
 pub sort-back : (s : ℕ) → s ≤ 2 → sortCode (sortOf s) ≡ s
 sort-back zero h = refl

@@ -5,7 +5,7 @@ use native.Mathlib.Omega.{arith}
 use mathlib.Core.Path.{_≡_, refl, ap, _∙_, sym}
 use mathlib.Core.Logic.{_↔_}
 use mathlib.Core.Bool.{Bool, true, _&&_}
-use mathlib.Core.List.{List, [], _∷_, _++_, map, List·Memᴰ}
+use mathlib.Core.List.{List, [], _∷_, map, List·Memᴰ}
 use lib.Dec.{leb}
 use lib.ListN.{length, take, drop, length-map, take-append-drop}
 use Rattle.rules.specs.Bytes.{Bytes, bytes, all}
@@ -19,7 +19,7 @@ use Rattle.rules.specs.Conforming.{mustBePresent, allows}
 use Rattle.rules.specs.Passing.{good, Good}
 use Rattle.rules.specs.Change.{definitionAt}
 use Rattle.rules.proofs.Words.{and-both, and-split}
-use Rattle.rules.proofs.BooleanLaws.{Every, every-at, every-in, every-map, none-nil}
+use Rattle.rules.proofs.BooleanLaws.{Every, every-at, every-in, every-map, none-nil, all-append}
 use Rattle.rules.proofs.TestLaws.{distinct-test}
 use Rattle.rules.proofs.WellFormedLaws.{well-formed, no-circle}
 use Rattle.rules.proofs.PassingLaws.{good-is}
@@ -99,10 +99,6 @@ module _ (w : ℕ) (f : FlatStore) (fit : FieldsFit w f) (bodies : bodiesFit f �
       }
 
 -- ---- ceilings: the bodies' tests hold the depths, so that the counts are left
-pub all-append : {A : Type 0} (p : A → Bool) (xs ys : List A) → all p xs ≡ true → all p ys ≡ true → all p (xs ++ ys) ≡ true
-all-append p [] ys h g = g
-all-append p (x ∷ xs) ys h g = let (a, b) = and-split (p x) (all p xs) h in and-both a (all-append p xs ys b g)
-
 depths-fit : (n : ℕ) (ds : List FlatDefinition) (ps : List (Deep FlatParticle)) → modelsFit n ds ps ≡ true → all (λ (p : Deep FlatParticle). leb (p .depth) 4) ps ≡ true
 unfolding modelsFit modelFits
 depths-fit n [] ps h = rw (none-nil ps h)
@@ -111,6 +107,7 @@ depths-fit n (d ∷ ds) ps h =
     let (u, v) = and-split (modelFits n (take (d .particles) ps)) (modelsFit n ds (drop (d .particles) ps)) y in
     ap (all (λ (p : Deep FlatParticle). leb (p .depth) 4)) (sym (take-append-drop (d .particles) ps))
     ∙ all-append (λ (p : Deep FlatParticle). leb (p .depth) 4) (take (d .particles) ps) (drop (d .particles) ps)
+    ∙ and-both
     (and-split (all (λ (p : Deep FlatParticle). leb (p .depth) 4) (take (d .particles) ps)) _ u .0) (depths-fit n ds (drop (d .particles) ps) v)
 
 pub ceilings-counted : (f : FlatStore) → bodiesFit f ≡ true

@@ -22,12 +22,11 @@ use Rattle.rules.specs.WellFormed.{known, storedName}
 use Rattle.rules.proofs.Words.{and-both}
 use Rattle.rules.proofs.BooleanLaws.{Every, all-left, all-right}
 use Rattle.rules.proofs.TestLaws.{distinct-test}
-use Rattle.rules.proofs.PreorderLaws.{build-flatten, rising}
+use Rattle.rules.proofs.PreorderLaws.{build-flatten, rising, flatten-rises}
 use Rattle.form_check.specs.FormTests.{particleFits, shaped, elementsIn, modelFits, modelsFit}
 use Rattle.store_check.specs.Reading.{DefinitionFits}
 use Rattle.store_check.proofs.IndexLaws.{known-index, index-once, distinct-map}
 use Rattle.circle_check.proofs.ReadLaws.{elements-append}
-use Rattle.row_check.proofs.Depths.{flatten-rises}
 
 pub rising-flatten : {A : Type 0} (d k : ℕ) (t : Forest A) (rest : List (Deep A)) → d ≤ k → ((j : ℕ) → d ≤ j → rising j rest ≡ true) → rising k (flatten d t ++ rest) ≡ true
 rising-flatten d k bare rest l h = h k l

@@ -16,13 +16,12 @@ use Rattle.rules.specs.Decode.{nameAt, rowSortOf, rowName, readRows}
 use Rattle.rules.specs.WellFormed.{lookup, isThere, wellFormed}
 use Rattle.rules.specs.Conforming.{ElementRows, RowConforms, EveryRow, Conforming}
 use Rattle.rules.specs.Change.{definitionAt}
-use Rattle.rules.proofs.BooleanLaws.{Every, every-in}
+use Rattle.rules.proofs.BooleanLaws.{Every, every-in, every-left, every-right}
 use Rattle.rules.proofs.PreorderLaws.{build-flatten}
 use Rattle.rules.proofs.DecodeLaws.{attributeNames}
 use Rattle.form_index.specs.Indices.{IndexForm, Sort, Below, Under, Everywhere, Documents}
 use Rattle.store_check.specs.Reading.{Agrees, PlainRow, ReadsAs}
 use Rattle.store_check.proofs.IndexLaws.{namesOf, index-name, lookup-at, Indexed, known-index}
-use Rattle.store_check.proofs.AttributeReads.{every-left, every-right}
 use Rattle.store_check.proofs.AttributeRows.{rowRead, rowWritten}
 use Rattle.store_check.proofs.ElementReads.{apart, below-read, below-written, below-found}
 

@@ -15,7 +15,7 @@ use Rattle.rules.specs.WellFormed.{isValue, withinCeilings, wellFormed}
 use Rattle.rules.specs.Conforming.{EveryRow}
 use Rattle.rules.specs.Passing.{laidRow, serials, goodSerials, good, Good, passes}
 use Rattle.rules.proofs.Words.{and-both, and-split}
-use Rattle.rules.proofs.BooleanLaws.{Every, every-append, every-map, none-nil}
+use Rattle.rules.proofs.BooleanLaws.{Every, every-append, every-map, none-nil, every-left, every-right}
 use Rattle.rules.proofs.PreorderLaws.{build-flatten}
 use Rattle.rules.proofs.LayoutLaws.{unle-le, read-bytes}
 use Rattle.rules.proofs.SerialLaws.{good-serials}
@@ -26,7 +26,6 @@ use Rattle.form_check.specs.FormTests.{bodiesFit}
 use Rattle.form_index.specs.Indices.{IndexForm}
 use Rattle.store_check.specs.Reading.{FieldsFit, flatIndexForm, Agrees, PlainRow, RowFits, ReadsAs, serialsOfRows, serialsFit, Checks, FlatPasses}
 use Rattle.store_check.proofs.IndexLaws.{namesOf}
-use Rattle.store_check.proofs.AttributeReads.{every-left, every-right}
 use Rattle.store_check.proofs.FormReads.{formOf, form-names, read-definitions, read-particles, read-attributes}
 use Rattle.store_check.proofs.FormGood.{form-good, form-agrees, good-bodies, good-fields}
 use Rattle.store_check.proofs.RowsRead.{docsRead, documents-read, documents-written}

@@ -6,13 +6,13 @@ use Rattle.rules.specs.Bytes.{Bytes}
 use Rattle.rules.specs.Passing.{passes}
 use Rattle.rules.specs.Change.{setText}
 use Rattle.rules.specs.Refusal.{first, conditions, noElement}
+use Rattle.change_laws.proofs.Conditions.{none-holds}
 use Rattle.row_walk.specs.declared.Plan.{Plan}
 use Rattle.store_laws.specs.Stores.{storeIn}
 use Rattle.planned_rows.specs.Walking.{Sized}
 use Rattle.store_writer.proofs.CallLaws.{passed}
 use Rattle.store_check.proofs.StoreFacts.{value-given}
 use Rattle.plans.specs.CallPlans.{textSerial, setTextPlan}
-use Rattle.plans.proofs.CallsPlanned.{none-holds}
 use Rattle.call_laws.proofs.Calls.{unmoved-small, Asks}
 
 module _ (bs : Bytes) {b : Bool} {m : ℕ} (h : not b ≡ false) (e : b ≡ passes bs) where

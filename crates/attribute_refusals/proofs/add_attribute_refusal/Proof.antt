@@ -3,9 +3,9 @@
 -- `add-0` of AttributeLaws).
 use native.Mathlib.Omega.{arith}
 use Rattle.store_check.proofs.StoreFacts.{whole, bad-text, fine-text, past-definitions, within-definitions}
-use Rattle.instance_search.proofs.TestLaws.{test-is, not-is}
 use Rattle.attribute_refusals.proofs.AttributeLaws.{add-2, add-3, add-4, add-5, add-6, add-12, add-0}
 use borrow.Author.Needs.{needs}
+use Rattle.rules.proofs.Words.{test-is, not-is}
 use Rattle.attribute_refusals.proofs.add_attribute_refusal.Statement.{statement}
 use Rattle.attribute_refusals.proofs.add_attribute_refusal.Tie as tie
 

@@ -21,7 +21,6 @@ use Rattle.document_printing.specs.Documents.{rowsText, stays}
 use Rattle.document_printing.proofs.RowTexts.{rows-tree, rows-bare}
 use Rattle.printing_parts.proofs.PartLaws.{row-step}
 use Rattle.printing_parts.proofs.WalkLaws.{Walk, walk-start, walk-deeper, walk-here, walk-stops, walk-ends, walk-as}
-use Rattle.escaping.proofs.Laws.{laid-long}
 use Rattle.document_printing.proofs.RowLaws.{end-short, row-short, element-enclosed, attribute-stepped, row-element-stepped, text-stepped}
 use Prim.Native.Nat.{ℕ, _<_}
 use borrow.Fn.Kinds.{In}
@@ -37,6 +36,7 @@ use Rattle.document_printing.proofs.put_rows.Kinds as put-rows-kinds
 use Rattle.document_printing.proofs.+put_element+put_row+put_rows.Lts-put_rows as put-rows-lts
 use Rattle.codec.proofs.put.Reads as put-reads
 use Rattle.codec.proofs.put_u8.Reads as put-u8-reads
+use Rattle.codec.proofs.Writers.{laid-long}
 use Rattle.layout.proofs.row_at.Reads as row-at-reads
 use Rattle.layout.proofs.row_depth.Reads as row-depth-reads
 use Rattle.layout.proofs.row_index.Reads as row-index-reads

@@ -6,8 +6,8 @@ use Prim.Native.Nat.{_-_}
 use native.Mathlib.Omega.{arith}
 use borrow.Author.Needs.{needs}
 use lib.ListN.{length}
-use Rattle.codec.proofs.Writers.{laid-as}
-use Rattle.escaping.proofs.Laws.{laid-long, Escaping, escaping-on, escaping-done}
+use Rattle.codec.proofs.Writers.{laid-as, laid-long}
+use Rattle.escaping.proofs.Laws.{Escaping, escaping-on, escaping-done}
 use Rattle.escaping.proofs.put_escaped.Statement.{statement}
 use Rattle.escaping.proofs.put_escaped.Tie as tie
 

@@ -1,22 +1,23 @@
--- `records::is_fill` meets its contract: each return is the clause of `isFill` for its sort (`none-length`, `fill-any`
--- of CodeLaws).
+-- `records::is_fill` meets its contract: each return is the clause of `isFill` for its sort (`none-long` of
+-- BooleanLaws, `fill-any` of CodeLaws).
 use mathlib.Core.Path.{sym, ap, _∙_}
 use Prim.Native.Nat.{ℕ}
 use mathlib.Core.Bool.{not}
 use Rattle.rules.specs.Decode.{sortOf}
 use Rattle.rules.specs.WellFormed.{isFill}
-use Rattle.records.proofs.CodeLaws.{none-length, fill-any}
+use Rattle.rules.proofs.BooleanLaws.{none-long}
+use Rattle.records.proofs.CodeLaws.{fill-any}
 use Rattle.records.proofs.is_fill.Statement.{statement}
 use Rattle.records.proofs.is_fill.Tie as tie
 
 returns : tie.Need-returns
-returns c = let v = c .before .args .value .now in sym (ap (λ (k : ℕ). isFill (sortOf k) v) (c .if1 .taken) ∙ none-length v)
+returns c = let v = c .before .args .value .now in sym (ap (λ (k : ℕ). isFill (sortOf k) v) (c .if1 .taken) ∙ sym (none-long v))
 
 returns-2 : tie.Need-returns-2
 returns-2 c =
     let start = c .before .before in
     let v = start .args .value .now in
-    sym (ap (λ (k : ℕ). isFill (sortOf k) v) (c .if2 .taken) ∙ ap not (none-length v))
+    sym (ap (λ (k : ℕ). isFill (sortOf k) v) (c .if2 .taken) ∙ ap not (sym (none-long v)))
 
 returns-3 : tie.Need-returns-3
 returns-3 c =

@@ -37,7 +37,7 @@ use Rattle.plans.proofs.FormsAfter.{good-attribute, added-ceiling, added-form}
 use Rattle.plans.proofs.AttributeCallsPlanned.{add-attribute-planned}
 use Rattle.attribute_form.specs.Attributes.{To}
 use Rattle.attribute_form.proofs.FormParts.{fits, front-laid}
-use Rattle.attribute_form.proofs.CountLaws.{count-definitions, count-particles, count-attributes}
+use Rattle.attribute_form.proofs.CountLaws.{number-of-definitions, number-of-particles, number-of-attributes}
 use Rattle.attribute_writer.specs.Attributes.{newEntry, Addable}
 use Rattle.add_attribute_call.specs.Added.{added}
 use Rattle.layout.specs.Fields.{versionAt}
@@ -82,7 +82,7 @@ module _ (bs : Bytes) (o : ℕ) (n : Bytes) (k : ℕ) (v : Bytes) (x : Addable b
       let i : ℕ = attributesTo o (f .attributes) in
       let c : FlatAttribute = newEntry o n k v in
       let over : withinCeilings (bareForm (attributeAdded i c f)) ≡ false =
-      added-ceiling i f (good-bodies kept) (within kept) c ∙ lt-leb (suc (length (f .attributes))) 64 (omega (arith, count-attributes bs e)) in
+      added-ceiling i f (good-bodies kept) (within kept) c ∙ lt-leb (suc (length (f .attributes))) 64 (omega (arith, number-of-attributes bs e)) in
       let a : Answers (limited room (added o n k v f)) out 16 0 out = form-ceiling (attributeAdded i c f) over (addAttributePlan (f .version) o i k) v f room in
       record { number-is = n-is ∙ a .number-is; length-is = l-is ∙ a .length-is; buffer-is = a .buffer-is }
 
@@ -94,8 +94,8 @@ module _ (bs : Bytes) (o : ℕ) (n : Bytes) (k : ℕ) (v : Bytes) (x : Addable b
         → FormOf (widthOf bs) (attributeAdded i (newEntry o n k v) (bodiesOf bs)) form d p (a + 1)
     of-bytes e =
         added-form i (bodiesOf bs) (good-bodies kept) (within kept) (newEntry o n k v) (good-attribute (widthOf bs) o n k v (x .name) (x .value))
-        (omega (arith, count-attributes bs ca)) e (count-definitions bs cd)
-        (count-particles bs cp) (omega (arith, count-attributes bs ca))
+        (omega (arith, number-of-attributes bs ca)) e (number-of-definitions bs cd)
+        (number-of-particles bs cp) (omega (arith, number-of-attributes bs ca))
 
     room-for : length (formBytes (widthOf bs) (attributeAdded i (newEntry o n k v) (bodiesOf bs))) ≤ mostForm
     room-for = form-short (forms-of (of-bytes refl)) (width-within bs)
@@ -116,7 +116,7 @@ module _ (bs : Bytes) (o : ℕ) (n : Bytes) (k : ℕ) (v : Bytes) (x : Addable b
       subst Sized (sym same)
           (record {
             moves = record { definitions = record { more = omega arith }; attributes = record { more = omega arith } };
-            filling = omega (arith, to .most, count-attributes bs ca);
+            filling = omega (arith, to .most, number-of-attributes bs ca);
           }),
       forms-of of,
     )

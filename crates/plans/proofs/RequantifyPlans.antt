@@ -20,10 +20,10 @@ use Rattle.rules.specs.Change.{nameAtIndex, laterThan, changed}
 use Rattle.rules.specs.Change as change
 use Rattle.rules.proofs.PassingLaws.{good-is}
 use Rattle.rules.proofs.Words.{or-split}
-use Rattle.change_laws.proofs.RowEdits.{keep, revalued}
+use Rattle.change_laws.proofs.RowEdits.{rowSerial, keep, revalued}
 use Rattle.change_laws.proofs.Rowwise.{Standing}
 use Rattle.change_laws.proofs.StandingLaws.{children-are, children-once}
-use Rattle.change_laws.proofs.InstanceRows.{rowSerial, keep-none, keep-no, keep-yes}
+use Rattle.change_laws.proofs.InstanceRows.{keep-none, keep-no, keep-yes}
 use Rattle.store_check.proofs.AttributeRows.{rowWritten}
 use Rattle.filling.specs.declared.Filling.{Filling}
 use Rattle.row_walk.specs.declared.Which.the-variants.{Elements}

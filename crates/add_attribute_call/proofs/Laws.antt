@@ -23,12 +23,12 @@ use Rattle.row_walk.specs.declared.Plan.{Plan}
 use Rattle.store_laws.specs.Stores.{storeIn}
 use Rattle.store_writer.specs.Writing.{limited}
 use Rattle.planned_rows.specs.Planned.{plannedIn}
-use Rattle.store_laws.specs.Forms.{formBytes, formRead, Forms}
+use Rattle.store_laws.specs.Forms.{formBytes, formRead, bareForm, Forms}
 use Rattle.planned_rows.specs.Walking.{Sized}
 use Rattle.store_laws.proofs.StoreLaws.{Holds, holds}
 use Rattle.store_writer.proofs.CallLaws.{answers-equal, passed}
 use Rattle.store_laws.proofs.FormBytesLaws.{form-short}
-use Rattle.store_laws.proofs.FormLaws.{bareForm, FormOf, forms-of, within, good-bodies}
+use Rattle.store_laws.proofs.FormLaws.{FormOf, forms-of, within, good-bodies}
 use Rattle.store_writer.proofs.FormAnswers.{form-answers, form-ceiling}
 use Rattle.store_check.proofs.StoreFacts.{Whole, whole, value-given}
 use Rattle.plans.specs.AttributeCalls.{attributesTo, addAttributePlan, attributeAdded}

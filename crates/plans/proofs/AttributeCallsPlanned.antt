@@ -31,6 +31,7 @@ use Rattle.rules.proofs.PassingLaws.{good-is}
 use Rattle.change_laws.proofs.Conditions.{not-past}
 use Rattle.change_laws.proofs.Rowwise.{Standing}
 use Rattle.change_laws.proofs.FormLaws.{attribute-owned, owner-at, owner-below}
+use Rattle.store_check.proofs.IndexLaws.{element-test}
 use Rattle.store_check.proofs.AttributeReads.{sort-back}
 use Rattle.store_check.proofs.AttributeRows.{rowWritten}
 use Rattle.store_check.proofs.AttributeBlocks.{offset}
@@ -55,7 +56,7 @@ use Rattle.plans.proofs.AttributeBodies.{definitions-kept, particles-ke
 use Rattle.plans.proofs.OwnedRows.{Owns, each-owned}
 use Rattle.plans.proofs.DocumentPlans.{given}
 use Rattle.plans.proofs.CallsPlanned.{none-holds, owned-there}
-use Rattle.plans.proofs.Instances.{element-test, apart-instances}
+use Rattle.plans.proofs.Instances.{apart-instances}
 
 pub and-swap : (a b : Bool) → (a && b) ≡ (b && a)
 and-swap true true = refl

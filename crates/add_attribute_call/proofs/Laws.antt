@@ -23,12 +23,12 @@ use Rattle.row_walk.specs.declared.Plan.{Plan}
 use Rattle.store_laws.specs.Stores.{storeIn}
 use Rattle.store_writer.specs.Writing.{limited}
 use Rattle.planned_rows.specs.Planned.{plannedIn}
-use Rattle.store_laws.specs.Forms.{formBytes, formRead, Forms}
+use Rattle.store_laws.specs.Forms.{formBytes, formRead, bareForm, Forms}
 use Rattle.planned_rows.specs.Walking.{Sized}
 use Rattle.store_laws.proofs.StoreLaws.{Holds, holds}
 use Rattle.store_writer.proofs.CallLaws.{answers-equal, passed}
 use Rattle.store_laws.proofs.FormBytesLaws.{form-short}
-use Rattle.store_laws.proofs.FormLaws.{bareForm, FormOf, forms-of, within, good-bodies}
+use Rattle.store_laws.proofs.FormLaws.{FormOf, forms-of, within, good-bodies}
 use Rattle.store_writer.proofs.FormAnswers.{form-answers, form-ceiling}
 use Rattle.store_check.proofs.StoreFacts.{Whole, whole, value-given}
 use Rattle.plans.specs.AttributeCalls.{attributesTo, addAttributePlan, attributeAdded}
@@ -36,7 +36,7 @@ use Rattle.plans.proofs.FormsAfter.{good-attribute, added-ceiling, added-form}
 use Rattle.plans.proofs.AttributeCallsPlanned.{add-attribute-planned}
 use Rattle.attribute_form.specs.Attributes.{To}
 use Rattle.attribute_form.proofs.FormParts.{fits, front-laid}
-use Rattle.attribute_form.proofs.CountLaws.{count-definitions, count-particles, count-attributes}
+use Rattle.attribute_form.proofs.CountLaws.{number-of-definitions, number-of-particles, number-of-attributes}
 use Rattle.attribute_writer.specs.Attributes.{newEntry, Addable}
 use Rattle.add_attribute_call.specs.Added.{added}
 use Rattle.layout.specs.Fields.{versionAt}
@@ -81,7 +81,7 @@ module _ (bs : Bytes) (o : ℕ) (n : Bytes) (k : ℕ) (v : Bytes) (x : Addable b
       let i : ℕ = attributesTo o (f .attributes) in
       let c : FlatAttribute = newEntry o n k v in
       let over : withinCeilings (bareForm (attributeAdded i c f)) ≡ false =
-      added-ceiling i f (good-bodies kept) (within kept) c ∙ lt-leb (suc (length (f .attributes))) 64 (omega (arith, count-attributes bs e)) in
+      added-ceiling i f (good-bodies kept) (within kept) c ∙ lt-leb (suc (length (f .attributes))) 64 (omega (arith, number-of-attributes bs e)) in
       let a : Answers (limited room (added o n k v f)) out 16 0 out = form-ceiling (attributeAdded i c f) over (addAttributePlan (f .version) o i k) v f room in
       record { number-is = n-is ∙ a .number-is; length-is = l-is ∙ a .length-is; buffer-is = a .buffer-is }
 
@@ -93,8 +93,8 @@ module _ (bs : Bytes) (o : ℕ) (n : Bytes) (k : ℕ) (v : Bytes) (x : Addable b
         → FormOf (widthOf bs) (attributeAdded i (newEntry o n k v) (bodiesOf bs)) form d p (a + 1)
     of-bytes e =
         added-form i (bodiesOf bs) (good-bodies kept) (within kept) (newEntry o n k v) (good-attribute (widthOf bs) o n k v (x .name) (x .value))
-        (omega (arith, count-attributes bs ca)) e (count-definitions bs cd)
-        (count-particles bs cp) (omega (arith, count-attributes bs ca))
+        (omega (arith, number-of-attributes bs ca)) e (number-of-definitions bs cd)
+        (number-of-particles bs cp) (omega (arith, number-of-attributes bs ca))
 
     room-for : length (formBytes (widthOf bs) (attributeAdded i (newEntry o n k v) (bodiesOf bs))) ≤ mostForm
     room-for = form-short (forms-of (of-bytes refl)) (width-within bs)
@@ -115,7 +115,7 @@ module _ (bs : Bytes) (o : ℕ) (n : Bytes) (k : ℕ) (v : Bytes) (x : Addable b
       subst Sized (sym same)
           (record {
             moves = record { definitions = record { more = omega arith }; attributes = record { more = omega arith } };
-            filling = omega (arith, to .most, count-attributes bs ca);
+            filling = omega (arith, to .most, number-of-attributes bs ca);
           }),
       forms-of of,
     )

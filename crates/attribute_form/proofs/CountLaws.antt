@@ -21,14 +21,14 @@ use Rattle.attribute_form.specs.Attributes.{AttributeStands, UpTo, To}
 
 -- ---- the bodies
 module _ (bs : Bytes) {n : ℕ} where
-  pub count-definitions : Number (definitionCount bs) n → n ≡ length (bodiesOf bs .definitions)
-  count-definitions e = e .value ∙ counted-definitions bs
+  pub number-of-definitions : Number (definitionCount bs) n → n ≡ length (bodiesOf bs .definitions)
+  number-of-definitions e = e .value ∙ counted-definitions bs
 
-  pub count-particles : Number (particleCount bs) n → n ≡ length (bodiesOf bs .particles)
-  count-particles e = e .value ∙ counted-particles bs
+  pub number-of-particles : Number (particleCount bs) n → n ≡ length (bodiesOf bs .particles)
+  number-of-particles e = e .value ∙ counted-particles bs
 
-  pub count-attributes : Number (attributeCount bs) n → n ≡ length (bodiesOf bs .attributes)
-  count-attributes e = e .value ∙ counted-attributes bs
+  pub number-of-attributes : Number (attributeCount bs) n → n ≡ length (bodiesOf bs .attributes)
+  number-of-attributes e = e .value ∙ counted-attributes bs
 
 -- w, attrs: the width and the attributes as the code reads them
 module _ (bs : Bytes) {w : ℕ} {attrs : Bytes} (wide : WidthIn bs w) (body : attrs ≡ attributesIn bs) where
@@ -50,7 +50,7 @@ pub stands : (bs : Bytes) (i : ℕ) {w d p r h : ℕ} → WidthIn bs w → Numbe
     → AttributeStands (widthOf bs) (bodiesOf bs) i (r - h)
 stands bs i {w} x e q r h =
     let z : attributeSize w * i ≡ attributeSize (widthOf bs) * i = ap (λ (k : ℕ). attributeSize k * i) (x .value) in
-    record { place = omega (arith, r .value, h, z, count-definitions bs e, count-particles bs q); small = omega (arith, r .small) }
+    record { place = omega (arith, r .value, h, z, number-of-definitions bs e, number-of-particles bs q); small = omega (arith, r .small) }
 
 -- ---- the count
 pub up-to : (o : ℕ) (rec : Bytes) {x : ℕ} → x ≡ readAttribute rec .owner → x ≤ o → UpTo o (readAttribute rec) 1
@@ -95,5 +95,5 @@ module _ (w o : ℕ) (body : Bytes) {count : ℕ} where
         in
         record {
           is = omega (arith, z, c .rest, ap (attributesTo o) (from-none readAttribute (attributeSize w) body count j h));
-          most = omega (arith, c .small, c .inside, count-attributes bs e);
+          most = omega (arith, c .small, c .inside, number-of-attributes bs e);
         }

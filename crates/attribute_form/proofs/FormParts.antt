@@ -15,10 +15,10 @@ use Rattle.codec.specs.Laid.{Laid}
 use Rattle.layout.specs.Bodies.{widthOf, mostForm}
 use Rattle.layout.proofs.LayoutLaws.{width-within}
 use Rattle.lookup.specs.Bodies.{bodiesOf, RowsBegin}
-use Rattle.store_laws.specs.Forms.{formBytes}
+use Rattle.store_laws.specs.Forms.{formBytes, bareForm}
 use Rattle.store_laws.proofs.StoreLaws.{Holds, holds}
 use Rattle.store_laws.proofs.FormBytesLaws.{Few, few-of, few-definitions, few-particles, few-attributes, ceilings-rows, form-short}
-use Rattle.store_laws.proofs.FormLaws.{bareForm, FormOf, forms-of, own-form, within, good-bodies, counted-definitions, counted-particles, counted-attributes}
+use Rattle.store_laws.proofs.FormLaws.{FormOf, forms-of, own-form, within, good-bodies, counted-definitions, counted-particles, counted-attributes}
 use Rattle.plans.specs.AttributeCalls.{attributesReplaced}
 use Rattle.attribute_form.specs.Attributes.{AttributeStands}
 

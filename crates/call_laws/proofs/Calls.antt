@@ -49,8 +49,8 @@ module _ (c : Call) (bs : Bytes) (room : ℕ) (out : Bytes) where
 pub unmoved-small : (p : Plan) → p .definitions .more ≡ 0 → p .attributes .more ≡ 0 → Planned p
 unmoved-small p d a = record { definitions = record { more = omega (arith, d) }; attributes = record { more = omega (arith, a) } }
 
-pub few-definitions : (s : Store) → good s ≡ true → length (s .form) ≤ 64
-few-definitions s g = omega (arith, length-map (s .form) (flatDefinition (s .form)), good-parts s g .definitionCount)
+pub good-few-definitions : (s : Store) → good s ≡ true → length (s .form) ≤ 64
+good-few-definitions s g = omega (arith, length-map (s .form) (flatDefinition (s .form)), good-parts s g .definitionCount)
 
 abbrev pub Asks : Bytes → Bytes → Plan → Type 0
 Asks bs v p = (passes bs ≡ true) × (isValue (widthOf bs) v ≡ true) × Sized p

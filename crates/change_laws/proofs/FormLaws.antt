@@ -111,6 +111,11 @@ module _ (u : Definition → Definition) (keeps : (d : Definition) → u d .name
   update-names zero (d ∷ form) = ap (λ (z : Bytes). z ∷ map definitionName form) (keeps d)
   update-names (suc i) (d ∷ form) = ap (λ (z : List Bytes). d .name ∷ z) (update-names i form)
 
+  pub index-kept : (i : ℕ) (form : Form) (n : Bytes) → indexOf n (update i u form) ≡ indexOf n form
+  index-kept i [] n = refl
+  index-kept zero (d ∷ form) n = ap (λ (m : Bytes). elim (same n m) as (λ z. ℕ) [ true ↦ 0 | false ↦ suc (indexOf n form) ]) (keeps d)
+  index-kept (suc i) (d ∷ form) n = ap (λ (j : ℕ). elim (same n (d .name)) as (λ z. ℕ) [ true ↦ 0 | false ↦ suc j ]) (index-kept i form n)
+
   pub update-other : (i : ℕ) (form : Form) (n : Bytes) → (n ≡ nameAtIndex i form → ⊥) → lookup n (update i u form) ≡ lookup n form
   update-other i [] n f = refl
   update-other zero (d ∷ form) n f = lookup-beside n (u d) d form form (keeps d) (λ e. absurd (f e)) refl

@@ -27,8 +27,8 @@ use Rattle.rules.proofs.ChildRows.{placeRows, firstRows, refitRows, refitGroupR
 use Rattle.rules.proofs.Height.{deep}
 use Rattle.rules.proofs.TestLaws.{all-test}
 use Rattle.rules.proofs.FillingLaws.{filling-heads, each-heads}
-use Rattle.change_laws.proofs.RowEdits.{keep, childrenAfter}
-use Rattle.change_laws.proofs.InstanceRows.{rowSerial, keep-all, keep-none, keep-beside, named-is, keep-erase, keep-first, named-none, among-none, whenDue, after-split, untouched}
+use Rattle.change_laws.proofs.RowEdits.{rowSerial, keep, childrenAfter}
+use Rattle.change_laws.proofs.InstanceRows.{keep-all, keep-none, keep-beside, named-is, keep-erase, keep-first, named-none, among-none, whenDue, after-split, untouched}
 
 -- the plan of an edit of the owner's model, at the place c before the members t
 abbrev pub editPlan : ℕ → Form → List Line → Bytes → Bytes → Edit Bytes → Context Bytes → Members Bytes → Plan

@@ -15,10 +15,7 @@ use Rattle.rules.specs.Change.{Plan, revalue}
 use Rattle.rules.proofs.Apart.{differs}
 use Rattle.rules.proofs.Children.{anyOf}
 use Rattle.rules.proofs.ChildRows.{eraseRows, placeRows, firstRows}
-use Rattle.change_laws.proofs.RowEdits.{keep, plantRows, revalued, childrenAfter}
-
-abbrev pub rowSerial : Row → ℕ
-rowSerial r = r .serial
+use Rattle.change_laws.proofs.RowEdits.{rowSerial, keep, plantRows, revalued, childrenAfter}
 
 -- ---- rows that pass a test
 module _ (p : Row → Bool) where

@@ -1,8 +1,12 @@
 -- What a plan does to the rows right below one row.
+use Prim.Native.Nat.{ℕ}
 use mathlib.Core.Bool.{Bool, true, false, _&&_, not}
 use mathlib.Core.List.{List, [], _∷_, _++_, map}
 use Rattle.rules.specs.Store.{Row, heads}
 use Rattle.rules.specs.Change.{Plan, revalue}
+
+abbrev pub rowSerial : Row → ℕ
+rowSerial r = r .serial
 
 -- the rows that pass a test
 unfoldable pub keep : (Row → Bool) → List Row → List Row

@@ -17,11 +17,8 @@ use Rattle.rules.specs.Passing.{serials, GoodSerials}
 use Rattle.rules.proofs.Words.{or-left, or-right, or-cases, and-split, either}
 use Rattle.rules.proofs.Correct.{distinct-left, distinct-right, distinct-apart}
 use Rattle.rules.proofs.Apart.{differs}
-use Rattle.change_laws.proofs.RowEdits.{keep}
+use Rattle.change_laws.proofs.RowEdits.{rowSerial, keep}
 use Rattle.change_laws.proofs.Rowwise.{Standing}
-
-abbrev pub serialOf : Row → ℕ
-serialOf r = r .serial
 
 -- ---- standing
 -- what holds of every row holds of one that stands there
@@ -33,7 +30,7 @@ standing-every P (tree s c t) (x, y, z) r b (inr (inr i)) = standing-every P t z
 
 pub standing-serial : (f : Forest Row) (r : Row) (b : Forest Row) → Standing f r b → List·Memᴰ (r .serial) (serials f)
 standing-serial bare r b i = absurd i
-standing-serial (tree s c t) r b (inl (e, g)) = List·Memᴰ·head (sym (ap serialOf e))
+standing-serial (tree s c t) r b (inl (e, g)) = List·Memᴰ·head (sym (ap rowSerial e))
 standing-serial (tree s c t) r b (inr (inl i)) = List·Memᴰ·tail (Memᴰ·append-left (serials t) (standing-serial c r b i))
 standing-serial (tree s c t) r b (inr (inr i)) = List·Memᴰ·tail (Memᴰ·append-right (serials c) (standing-serial t r b i))
 
@@ -70,25 +67,25 @@ pub standing-once : (f : Forest Row) → Distinct (serials f) → (r s : Row) (b
 standing-once bare d r s b c i j e = absurd i
 standing-once (tree u a t) (n, d) r s b c (inl (g, h)) (inl (k, l)) e = (sym g ∙ k, sym h ∙ l)
 standing-once (tree u a t) (n, d) r s b c (inl (g, h)) (inr (inl j)) e =
-    absurd (n (Memᴰ·cast (ap serialOf g ∙ e) (Memᴰ·append-left (serials t) (standing-serial a s c j))))
+    absurd (n (Memᴰ·cast (ap rowSerial g ∙ e) (Memᴰ·append-left (serials t) (standing-serial a s c j))))
 standing-once (tree u a t) (n, d) r s b c (inl (g, h)) (inr (inr j)) e =
-    absurd (n (Memᴰ·cast (ap serialOf g ∙ e) (Memᴰ·append-right (serials a) (standing-serial t s c j))))
+    absurd (n (Memᴰ·cast (ap rowSerial g ∙ e) (Memᴰ·append-right (serials a) (standing-serial t s c j))))
 standing-once (tree u a t) (n, d) r s b c (inr (inl i)) (inl (k, l)) e =
-    absurd (n (Memᴰ·cast (ap serialOf k ∙ sym e) (Memᴰ·append-left (serials t) (standing-serial a r b i))))
+    absurd (n (Memᴰ·cast (ap rowSerial k ∙ sym e) (Memᴰ·append-left (serials t) (standing-serial a r b i))))
 standing-once (tree u a t) (n, d) r s b c (inr (inl i)) (inr (inl j)) e = standing-once a (distinct-left (serials a) (serials t) d) r s b c i j e
 standing-once (tree u a t) (n, d) r s b c (inr (inl i)) (inr (inr j)) e =
     absurd (distinct-apart (serials a) (serials t) d (r .serial) (standing-serial a r b i) (Memᴰ·cast e (standing-serial t s c j)))
 standing-once (tree u a t) (n, d) r s b c (inr (inr i)) (inl (k, l)) e =
-    absurd (n (Memᴰ·cast (ap serialOf k ∙ sym e) (Memᴰ·append-right (serials a) (standing-serial t r b i))))
+    absurd (n (Memᴰ·cast (ap rowSerial k ∙ sym e) (Memᴰ·append-right (serials a) (standing-serial t r b i))))
 standing-once (tree u a t) (n, d) r s b c (inr (inr i)) (inr (inl j)) e =
     absurd (distinct-apart (serials a) (serials t) d (r .serial) (Memᴰ·cast e (standing-serial a s c j)) (standing-serial t r b i))
 standing-once (tree u a t) (n, d) r s b c (inr (inr i)) (inr (inr j)) e = standing-once t (distinct-right (serials a) (serials t) d) r s b c i j e
 
-heads-serials : (f : Forest Row) (k : ℕ) → List·Memᴰ k (map serialOf (heads f)) → List·Memᴰ k (serials f)
+heads-serials : (f : Forest Row) (k : ℕ) → List·Memᴰ k (map rowSerial (heads f)) → List·Memᴰ k (serials f)
 heads-serials bare k m = m
 heads-serials (tree r b t) k m = ⊎-elim (λ e. List·Memᴰ·head e) (λ i. List·Memᴰ·tail (Memᴰ·append-right (serials b) (heads-serials t k i))) (List·Memᴰ·cases-cons m)
 
-heads-once : (f : Forest Row) → Distinct (serials f) → Distinct (map serialOf (heads f))
+heads-once : (f : Forest Row) → Distinct (serials f) → Distinct (map rowSerial (heads f))
 heads-once bare d = tt
 heads-once (tree r b t) (n, d) = (λ m. n (Memᴰ·append-right (serials b) (heads-serials t (r .serial) m)), heads-once t (distinct-right (serials b) (serials t) d))
 
@@ -138,7 +135,7 @@ module _ (test : Row → Bool) (k : ℕ) where
       ∙ ap₂ (λ (x y : List ℕ). x ++ y) (children-none (r .serial) b (λ e. m (List·Memᴰ·head (sym e))) (λ i. m (List·Memᴰ·tail (Memᴰ·append-left (serials t) i))))
       (children-none up t n (λ i. m (List·Memᴰ·tail (Memᴰ·append-right (serials b) i))))
 
-  children-here : (f : Forest Row) → (List·Memᴰ k (serials f) → ⊥) → childrenOf test k (lines k f) ≡ map serialOf (keep test (heads f))
+  children-here : (f : Forest Row) → (List·Memᴰ k (serials f) → ⊥) → childrenOf test k (lines k f) ≡ map rowSerial (keep test (heads f))
   unfolding childrenOf keep
   children-here bare m = refl
   children-here (tree r b t) m = by (test r) refl (rest ∙ children-here t (λ i. m (List·Memᴰ·tail (Memᴰ·append-right (serials b) i))))
@@ -148,13 +145,13 @@ module _ (test : Row → Bool) (k : ℕ) where
           children-append test k (lines (r .serial) b) (lines k t)
           ∙ ap (λ (z : List ℕ). z ++ childrenOf test k (lines k t)) (children-none (r .serial) b (λ e. m (List·Memᴰ·head (sym e))) (λ i. m (List·Memᴰ·tail (Memᴰ·append-left (serials t) i))))
 
-      by : (c : Bool) → test r ≡ c → childrenOf test k (lines (r .serial) b ++ lines k t) ≡ map serialOf (keep test (heads t))
-          → childrenOf test k (lines k (tree r b t)) ≡ map serialOf (keep test (heads (tree r b t)))
+      by : (c : Bool) → test r ≡ c → childrenOf test k (lines (r .serial) b ++ lines k t) ≡ map rowSerial (keep test (heads t))
+          → childrenOf test k (lines k (tree r b t)) ≡ map rowSerial (keep test (heads (tree r b t)))
       by true e x = rw (eqb-of k k refl, childrenOf) (rw e (ap (λ (z : List ℕ). r .serial ∷ z) x))
       by false e x = rw (eqb-of k k refl, childrenOf) (rw e x)
 
 children-in : (test : Row → Bool) (up : ℕ) (f : Forest Row) (r : Row) (b : Forest Row) → (up ≡ r .serial → ⊥) → Distinct (serials f) → Standing f r b
-    → childrenOf test (r .serial) (lines up f) ≡ map serialOf (keep test (heads b))
+    → childrenOf test (r .serial) (lines up f) ≡ map rowSerial (keep test (heads b))
 children-in test up bare r b n d i = absurd i
 children-in test up (tree s c t) r b n (m, d) i =
     children-past test (r .serial) (record { parent = up; row = s }) (lines (s .serial) c ++ lines up t) n
@@ -162,21 +159,21 @@ children-in test up (tree s c t) r b n (m, d) i =
     ∙ by i (children-in test (s .serial) c r b) (children-in test up t r b)
   where
     by : Standing (tree s c t) r b
-        → ((s .serial ≡ r .serial → ⊥) → Distinct (serials c) → Standing c r b → childrenOf test (r .serial) (lines (s .serial) c) ≡ map serialOf (keep test (heads b)))
-        → ((up ≡ r .serial → ⊥) → Distinct (serials t) → Standing t r b → childrenOf test (r .serial) (lines up t) ≡ map serialOf (keep test (heads b)))
-        → childrenOf test (r .serial) (lines (s .serial) c) ++ childrenOf test (r .serial) (lines up t) ≡ map serialOf (keep test (heads b))
+        → ((s .serial ≡ r .serial → ⊥) → Distinct (serials c) → Standing c r b → childrenOf test (r .serial) (lines (s .serial) c) ≡ map rowSerial (keep test (heads b)))
+        → ((up ≡ r .serial → ⊥) → Distinct (serials t) → Standing t r b → childrenOf test (r .serial) (lines up t) ≡ map rowSerial (keep test (heads b)))
+        → childrenOf test (r .serial) (lines (s .serial) c) ++ childrenOf test (r .serial) (lines up t) ≡ map rowSerial (keep test (heads b))
     by (inl (e, g)) x y =
         ap₂ (λ (u v : List ℕ). u ++ v)
-        (ap (λ (z : ℕ). childrenOf test (r .serial) (lines z c)) (ap serialOf e)
-        ∙ children-here test (r .serial) c (λ j. m (Memᴰ·append-left (serials t) (Memᴰ·cast (ap serialOf e) j)))
-        ∙ ap (λ (z : Forest Row). map serialOf (keep test (heads z))) g)
-        (children-none test (r .serial) up t n (λ j. m (Memᴰ·append-right (serials c) (Memᴰ·cast (ap serialOf e) j))))
-        ∙ append-nil (map serialOf (keep test (heads b)))
+        (ap (λ (z : ℕ). childrenOf test (r .serial) (lines z c)) (ap rowSerial e)
+        ∙ children-here test (r .serial) c (λ j. m (Memᴰ·append-left (serials t) (Memᴰ·cast (ap rowSerial e) j)))
+        ∙ ap (λ (z : Forest Row). map rowSerial (keep test (heads z))) g)
+        (children-none test (r .serial) up t n (λ j. m (Memᴰ·append-right (serials c) (Memᴰ·cast (ap rowSerial e) j))))
+        ∙ append-nil (map rowSerial (keep test (heads b)))
     by (inr (inl j)) x y =
         let k : List·Memᴰ (r .serial) (serials c) = standing-serial c r b j in
         ap₂ (λ (u v : List ℕ). u ++ v) (x (λ e. m (Memᴰ·append-left (serials t) (Memᴰ·cast e k))) (distinct-left (serials c) (serials t) d) j)
         (children-none test (r .serial) up t n (distinct-apart (serials c) (serials t) d (r .serial) k))
-        ∙ append-nil (map serialOf (keep test (heads b)))
+        ∙ append-nil (map rowSerial (keep test (heads b)))
     by (inr (inr j)) x y =
         let k : List·Memᴰ (r .serial) (serials t) = standing-serial t r b j in
         ap₂ (λ (u v : List ℕ). u ++ v)
@@ -235,14 +232,14 @@ module _ (next : ℕ) (docs : Forest Row) (good : GoodSerials next docs) where
   pub no-zero : (r : Row) (b : Forest Row) → Standing docs r b → r .serial ≡ 0 → ⊥
   no-zero r b i e = let (l, m) = good .below (r .serial) (standing-serial docs r b i) in omega arith
 
-  pub children-are : (test : Row → Bool) (r : Row) (b : Forest Row) → Standing docs r b → childrenOf test (r .serial) (lines 0 docs) ≡ map serialOf (keep test (heads b))
+  pub children-are : (test : Row → Bool) (r : Row) (b : Forest Row) → Standing docs r b → childrenOf test (r .serial) (lines 0 docs) ≡ map rowSerial (keep test (heads b))
   children-are test r b i = children-in test 0 docs r b (λ e. no-zero r b i (sym e)) (good .once) i
 
   pub one-row : (r s : Row) (b c : Forest Row) → Standing docs r b → Standing docs s c → r .serial ≡ s .serial → (r ≡ s) × (b ≡ c)
   one-row r s b c i j e = standing-once docs (good .once) r s b c i j e
 
   -- the rows right below a row have serials that stand once, none of them 0
-  pub children-once : (r : Row) (b : Forest Row) → Standing docs r b → Distinct (map serialOf (heads b))
+  pub children-once : (r : Row) (b : Forest Row) → Standing docs r b → Distinct (map rowSerial (heads b))
   children-once r b i = heads-once b (below-once docs (good .once) r b i)
 
   pub children-given : (r : Row) (b : Forest Row) → Standing docs r b → (s : Row) → List·Memᴰ s (heads b) → s .serial ≡ 0 → ⊥

@@ -4,14 +4,14 @@ use native.Mathlib.Omega.{arith}
 use native.Mathlib.Nat.{mul-suc, mul-zero}
 use native.Mathlib.Numerals.{add-one}
 use mathlib.Core.Path.{_≡_, refl, sym, ap, ap₂, _∙_}
-use mathlib.Core.List.{List, [], _∷_, _++_, map, append-assoc}
+use mathlib.Core.List.{List, [], _∷_, _++_, map, append-assoc, append-nil}
 use lib.ListN.{length, take, drop, length-append, length-take, length-drop, take-append-drop}
 use lib.Seq.{drop-drop, take-append-seam, drop-append-seam, length-take-le, length-sets}
 use Rattle.rules.specs.Bytes.{Bytes}
 use Rattle.rules.specs.Preorder.{Deep}
 use Rattle.rules.specs.Layout.{FlatParticle, FlatAttribute, attributeSize, particleBytes, attributeBytes, each}
 use Rattle.rules.specs.Decode.{readParticle}
-use Rattle.rules.proofs.LayoutLaws.{length-each, each-append}
+use Rattle.rules.proofs.LayoutLaws.{each-append, each-drop}
 use Rattle.codec.specs.Laid.{Laid}
 use Rattle.codec.proofs.Writers.{laid-none, laid-then, laid-as}
 use Rattle.layout.specs.Fields.{particleIndexAt, attributeNameAt}
@@ -81,21 +81,6 @@ records-short g size h (suc count) body =
 
 -- ---- the records of a list
 module _ {A : Type 0} (f : A → Bytes) (size : ℕ) (sized : (x : A) → length (f x) ≡ size) where
-  pub each-drop : (k : ℕ) (xs : List A) (rest : Bytes) → k ≤ length xs → drop (size * k) (each f xs ++ rest) ≡ each f (drop k xs) ++ rest
-  each-drop k xs rest h =
-      let n : ℕ = length (each f (take k xs)) in
-      let e : length (each f (take k xs)) ≡ size * k = length-each f size sized (take k xs) ∙ ap (λ (j : ℕ). size * j) (length-take-le k xs h) in
-      ap₂ (λ (j : ℕ) (l : Bytes). drop j (l ++ rest)) (sym e) (ap (each f) (sym (take-append-drop k xs)) ∙ each-append f (take k xs) (drop k xs))
-      ∙ ap (drop (length (each f (take k xs)))) (append-assoc (each f (take k xs)) (each f (drop k xs)) rest)
-      ∙ drop-append-seam (each f (take k xs)) (each f (drop k xs) ++ rest)
-
-  pub each-take : (k : ℕ) (xs : List A) (rest : Bytes) → k ≤ length xs → take (size * k) (each f xs ++ rest) ≡ each f (take k xs)
-  each-take k xs rest h =
-      let e : length (each f (take k xs)) ≡ size * k = length-each f size sized (take k xs) ∙ ap (λ (j : ℕ). size * j) (length-take-le k xs h) in
-      ap₂ (λ (j : ℕ) (l : Bytes). take j (l ++ rest)) (sym e) (ap (each f) (sym (take-append-drop k xs)) ∙ each-append f (take k xs) (drop k xs))
-      ∙ ap (take (length (each f (take k xs)))) (append-assoc (each f (take k xs)) (each f (drop k xs)) rest)
-      ∙ take-append-seam (each f (take k xs)) (each f (drop k xs) ++ rest)
-
   module _ (g : Bytes → Bytes) (m : A → A) (again : (x : A) → g (f x) ≡ f (m x)) where
     records-again : (xs : List A) (rest : Bytes) → eachRecord g size (length xs) (each f xs ++ rest) ≡ each f (map m xs)
     unfolding eachRecord
@@ -107,24 +92,25 @@ module _ {A : Type 0} (f : A → Bytes) (size : ℕ) (sized : (x : A) → length
         ∙ ap₂ (λ (u v : Bytes). u ++ v) (again x) (records-again xs rest)
 
     -- the first a records, and those from b on
-    front-again : (a : ℕ) (xs : List A) (rest : Bytes) → a ≤ length xs → eachRecord g size a (each f xs ++ rest) ≡ each f (map m (take a xs))
-    front-again a xs rest h =
-        ap₂ (λ (k : ℕ) (l : Bytes). eachRecord g size k (l ++ rest)) (sym (length-take-le a xs h)) (ap (each f) (sym (take-append-drop a xs)) ∙ each-append f (take a xs) (drop a xs))
-        ∙ ap (eachRecord g size (length (take a xs))) (append-assoc (each f (take a xs)) (each f (drop a xs)) rest)
-        ∙ records-again (take a xs) (each f (drop a xs) ++ rest)
+    front-again : (a : ℕ) (xs : List A) → a ≤ length xs → eachRecord g size a (each f xs) ≡ each f (map m (take a xs))
+    front-again a xs h =
+        ap₂ (λ (k : ℕ) (l : Bytes). eachRecord g size k l) (sym (length-take-le a xs h)) (ap (each f) (sym (take-append-drop a xs)) ∙ each-append f (take a xs) (drop a xs))
+        ∙ records-again (take a xs) (each f (drop a xs))
 
-    back-again : (b : ℕ) (xs : List A) (rest : Bytes) → b ≤ length xs → eachRecord g size (length xs - b) (drop (size * b) (each f xs ++ rest)) ≡ each f (map m (drop b xs))
-    back-again b xs rest h = ap₂ (λ (k : ℕ) (l : Bytes). eachRecord g size k l) (sym (length-drop b xs)) (each-drop b xs rest h) ∙ records-again (drop b xs) rest
+    back-again : (b : ℕ) (xs : List A) → eachRecord g size (length xs - b) (drop (size * b) (each f xs)) ≡ each f (map m (drop b xs))
+    back-again b xs =
+        ap₂ (λ (k : ℕ) (l : Bytes). eachRecord g size k l) (sym (length-drop b xs)) (each-drop f size sized b xs ∙ sym (append-nil (each f (drop b xs))))
+        ∙ records-again (drop b xs) []
 
-    pub cut-again : (a b : ℕ) (xs : List A) (rest : Bytes) → a ≤ b → b ≤ length xs
-        → each f (map m (cutOut a (b - a) xs)) ≡ eachRecord g size a (each f xs ++ rest) ++ eachRecord g size (length xs - b) (drop (size * b) (each f xs ++ rest))
+    pub cut-again : (a b : ℕ) (xs : List A) → a ≤ b → b ≤ length xs
+        → each f (map m (cutOut a (b - a) xs)) ≡ eachRecord g size a (each f xs) ++ eachRecord g size (length xs - b) (drop (size * b) (each f xs))
     unfolding cutOut
-    cut-again a b xs rest h k =
+    cut-again a b xs h k =
         let z : a + (b - a) ≡ b = omega arith in
         ap (λ (j : ℕ). each f (map m (take a xs ++ drop j xs))) z
         ∙ ap (each f) (map-append m (take a xs) (drop b xs))
         ∙ each-append f (map m (take a xs)) (map m (drop b xs))
-        ∙ sym (ap₂ (λ (u v : Bytes). u ++ v) (front-again a xs rest (omega arith)) (back-again b xs rest k))
+        ∙ sym (ap₂ (λ (u v : Bytes). u ++ v) (front-again a xs (omega arith)) (back-again b xs))
 
 -- ---- the two records
 module _ (g : ℕ → ℕ) where

@@ -4,14 +4,14 @@ use native.Mathlib.Omega.{arith}
 use native.Mathlib.Numerals.{add-one}
 use mathlib.Core.Path.{_≡_, sym, ap, ap₂, _∙_, refl}
 use mathlib.Core.Bool.{true}
-use mathlib.Core.List.{List, [], _++_, map, append-nil}
+use mathlib.Core.List.{List, _++_, map}
 use lib.ListN.{length, take, drop}
 use Rattle.rules.specs.Bytes.{Bytes}
 use Rattle.rules.specs.Layout.{headerSize, definitionSize, particleSize, attributeSize, FlatStore, flatBytes, definitionBytes, particleBytes, attributeBytes, rowBytes, each}
 use Rattle.rules.specs.Decode.{numberAt, definitionCount, particleCount, attributeCount}
 use Rattle.rules.specs.Passing.{passes}
 use Rattle.rules.proofs.BooleanLaws.{Every}
-use Rattle.rules.proofs.LayoutLaws.{length-definition, length-particle, length-attribute, length-each, each-append}
+use Rattle.rules.proofs.LayoutLaws.{length-definition, length-particle, length-attribute, length-each, each-append, each-take, each-drop}
 use Rattle.codec.specs.Laid.{Laid}
 use Rattle.codec.proofs.Writers.{laid-then, laid-as}
 use Rattle.layout.specs.Bodies.{widthOf, WidthIn, Number, definitionsIn, particlesIn, attributesIn}
@@ -30,7 +30,7 @@ use Rattle.definition_writer.specs.Bodies.{movedParticle, movedRow}
 use Rattle.definition_removal.specs.Bodies.{lowered, cutOut, particlesUpTo, attributesUpTo, eachRecord, particleRecord, attributeRecord, movedAttribute, Between, destroyed, headerLeft}
 use Rattle.store_laws.proofs.Encoded.{Encoded, encoded, bytes-are, others, definitions-at, particles-at, attributes-at}
 use Rattle.definition_removal.specs.Shifting.{shifting}
-use Rattle.definition_removal.proofs.Again.{each-drop, each-take, cut-again, particle-again, attribute-again}
+use Rattle.definition_removal.proofs.Again.{cut-again, particle-again, attribute-again}
 use Rattle.definition_removal.proofs.KeptRows.{kept-rows, moved-old}
 use Rattle.definition_removal.proofs.Left.{definitions-left, rows-left, few-particles, few-attributes}
 use Rattle.planned_rows.proofs.FilledLaws.{stored-old}
@@ -45,11 +45,10 @@ module _ {A : Type 0} (enc : A → Bytes) (size : ℕ) (sized : (y : A) → leng
       → tail ≡ drop (size * r .end) body → Laid (eachRecord record-of size (r .start) body) out at at₁ out₁ → Laid (eachRecord record-of size (n - r .end) tail) out₁ at₁ at₂ out₂
       → Laid (each enc (map move (cutOut (P i) (P (suc i) - P i) xs))) out at at₂ out₂
   left-laid {n = n} {r = r} {body = body} eb en ea s et u v =
-      let e : each enc xs ++ [] ≡ body = append-nil (each enc xs) ∙ sym eb in
       let k : length xs ≡ n = sym (ea .value ∙ en) in
       laid-as
-      (cut-again enc size sized record-of move again (P i) (P (suc i)) xs [] (omega (arith, s .order, s .first .is, s .past .is)) (omega (arith, s .past .is, s .past .most, en))
-      ∙ (λ j. eachRecord record-of size (sym (s .first .is) j) (e j) ++ eachRecord record-of size (k j - sym (s .past .is) j) (drop (size * sym (s .past .is) j) (e j)))
+      (cut-again enc size sized record-of move again (P i) (P (suc i)) xs (omega (arith, s .order, s .first .is, s .past .is)) (omega (arith, s .past .is, s .past .most, en))
+      ∙ (λ j. eachRecord record-of size (sym (s .first .is) j) (sym eb j) ++ eachRecord record-of size (k j - sym (s .past .is) j) (drop (size * sym (s .past .is) j) (sym eb j)))
       ∙ ap (λ (l : Bytes). eachRecord record-of size (r .start) body ++ eachRecord record-of size (n - r .end) l) (sym et))
       (laid-then u v)
 
@@ -64,9 +63,6 @@ module _ (bs : Bytes) (p : passes bs ≡ true) (i : ℕ) (h : i < definitionCoun
   g = lowered (suc i) 1
 
   -- ---- definitions
-  bodies-at : definitionsIn bs ≡ each definitionBytes (f .definitions) ++ []
-  bodies-at = definitions-at x ∙ sym (append-nil (each definitionBytes (f .definitions)))
-
   -- d: the definitions as the code reads them
   pub definitions-laid : {d u v out out₁ out₂ : Bytes} {at at₁ at₂ : ℕ} → d ≡ definitionsIn bs → u ≡ take (definitionSize * i) d → v ≡ drop (definitionSize * (i + 1)) d
       → Laid u out at at₁ out₁ → Laid v out₁ at₁ at₂ out₂
@@ -74,13 +70,12 @@ module _ (bs : Bytes) (p : passes bs ≡ true) (i : ℕ) (h : i < definitionCoun
   unfolding destroyed cutOut
   definitions-laid {u = u} {v = v} e eu ev a b =
       let front : u ≡ each definitionBytes (take i (f .definitions)) =
-      eu ∙ ap (take (definitionSize * i)) (e ∙ bodies-at) ∙ each-take definitionBytes definitionSize length-definition i (f .definitions) [] (omega (arith, x .definitions))
+      eu ∙ ap (take (definitionSize * i)) (e ∙ definitions-at x) ∙ each-take definitionBytes definitionSize length-definition i (f .definitions)
       in
       let back : v ≡ each definitionBytes (drop (i + 1) (f .definitions)) =
       ev
-      ∙ ap (drop (definitionSize * (i + 1))) (e ∙ bodies-at)
-      ∙ each-drop definitionBytes definitionSize length-definition (i + 1) (f .definitions) [] (omega (arith, x .definitions))
-      ∙ append-nil (each definitionBytes (drop (i + 1) (f .definitions)))
+      ∙ ap (drop (definitionSize * (i + 1))) (e ∙ definitions-at x)
+      ∙ each-drop definitionBytes definitionSize length-definition (i + 1) (f .definitions)
       in
       laid-as (each-append definitionBytes (take i (f .definitions)) (drop (i + 1) (f .definitions)) ∙ ap₂ (λ (y z : Bytes). y ++ z) (sym front) (sym back)) (laid-then a b)
 

@@ -36,7 +36,7 @@ use Rattle.plans.specs.AttributeCalls.{ownerAt, destroyAttributePlan, attribute
 use Rattle.plans.proofs.FormsAfter.{dropped-form}
 use Rattle.plans.proofs.AttributeCallsPlanned.{destroy-attribute-planned}
 use Rattle.attribute_form.proofs.FormParts.{fits, front-laid}
-use Rattle.attribute_form.proofs.CountLaws.{count-definitions, count-particles, count-attributes}
+use Rattle.attribute_form.proofs.CountLaws.{number-of-definitions, number-of-particles, number-of-attributes}
 use Rattle.attribute_writer.specs.Attributes.{Droppable}
 use Rattle.destroy_attribute_call.specs.Dropped.{dropped}
 use Rattle.rules.proofs.WellFormedLaws.{none-value}
@@ -71,8 +71,8 @@ module _ (bs : Bytes) (a : ℕ) (x : Droppable bs a) where
       (long : length buffer ≡ mostForm) (y : Laid (formBytes (widthOf bs) (attributeDropped a (bodiesOf bs))) buffer 0 r left) where
     without-bytes : {form : Bytes} → form ≡ formBytes (widthOf bs) (attributeDropped a (bodiesOf bs)) → FormOf (widthOf bs) (attributeDropped a (bodiesOf bs)) form d p (count - 1)
     without-bytes e =
-        dropped-form a (bodiesOf bs) (good-bodies stays) (within stays) (x .inside) e (count-definitions bs cd) (count-particles bs cp)
-        (omega (arith, count-attributes bs ca, x .inside))
+        dropped-form a (bodiesOf bs) (good-bodies stays) (within stays) (x .inside) e (number-of-definitions bs cd) (number-of-particles bs cp)
+        (omega (arith, number-of-attributes bs ca, x .inside))
 
     less-room : length (formBytes (widthOf bs) (attributeDropped a (bodiesOf bs))) ≤ mostForm
     less-room = form-short (forms-of (without-bytes refl)) (width-within bs)

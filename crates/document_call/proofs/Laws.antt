@@ -15,7 +15,7 @@ use Rattle.store_laws.proofs.StoreLaws.{Holds, holds}
 use Rattle.store_writer.proofs.CallLaws.{passed}
 use Rattle.store_check.proofs.StoreFacts.{value-given}
 use Rattle.plans.specs.CallPlans.{addDocumentPlan}
-use Rattle.call_laws.proofs.Calls.{few-definitions, unmoved-small, Asks}
+use Rattle.call_laws.proofs.Calls.{good-few-definitions, unmoved-small, Asks}
 
 module _ (bs : Bytes) {b : Bool} {m : ℕ} (h : not b ≡ false) (e : b ≡ passes bs) where
   pub add-document-asks : (i : ℕ) (t : Bytes) {q : Plan} → m ≡ first (conditions (addDocument i t) (storeIn bs)) → m ≡ 0 → q ≡ addDocumentPlan i → Asks bs t q
@@ -23,5 +23,5 @@ module _ (bs : Bytes) {b : Bool} {m : ℕ} (h : not b ≡ false) (e : b ≡ pass
   add-document-asks i t {q} f z same =
       let kept : Holds bs = holds bs (passed bs h e) in
       let (text, (index, end)) = none-holds (addDocument i t) (storeIn bs) (sym f ∙ z) in
-      let i-few : i ≤ 256 = omega (arith, not-past i (storeIn bs .form) index, few-definitions (storeIn bs) (kept .good)) in
+      let i-few : i ≤ 256 = omega (arith, not-past i (storeIn bs .form) index, good-few-definitions (storeIn bs) (kept .good)) in
       (passed bs h e, value-given bs t text, subst Sized (sym same) (record { moves = unmoved-small (addDocumentPlan i) refl refl; filling = i-few }))

@@ -19,12 +19,12 @@ use Rattle.rules.specs.Conforming.{nameOf, ElementRows, RowConforms, isAttribut
 use Rattle.rules.specs.Lines.{elementWith, attributeNamed, findRow, childrenOf, serialAt}
 use Rattle.rules.specs.Change.{setAttribute, destroyAttributeRow, Owned, attributeAt, definitionAt, after}
 use Rattle.rules.specs.Refusal.{Condition, _if_, first, conditions, rowsOf, noElement, unknownAttribute, isOther, isAbsent}
-use Rattle.change_laws.proofs.RowEdits.{keep}
+use Rattle.change_laws.proofs.RowEdits.{rowSerial, keep}
 use Rattle.rules.proofs.Apart.{differs}
 use Rattle.change_laws.proofs.Rowwise.{Standing}
 use Rattle.change_laws.proofs.FormLaws.{attribute-owned, owner-found, owner-at, owner-below}
 use Rattle.change_laws.proofs.Untouched.{keep-in}
-use Rattle.change_laws.proofs.StandingLaws.{serialOf, standing-every, found-element, children-are, children-given}
+use Rattle.change_laws.proofs.StandingLaws.{standing-every, found-element, children-are, children-given}
 use Rattle.form_index.specs.Indices.{IndexForm}
 use Rattle.layout.specs.Bodies.{widthOf, WidthIn, attributesIn}
 use Rattle.form_index.specs.Reading.{attributeIn}
@@ -57,7 +57,7 @@ serial-next : (a : ℕ) (r : FlatRow) (rs : List FlatRow) → eqb (r .index) a �
 serial-next a r rs e = rw (e, flat.serialOfIndex)
 
 -- none stands just where the first has serial 0
-counted : (rows : List Row) → ((r : Row) → List·Memᴰ r rows → r .serial ≡ 0 → ⊥) → isNone (map serialOf rows) ≡ eqb (serialAt 0 (map serialOf rows)) 0
+counted : (rows : List Row) → ((r : Row) → List·Memᴰ r rows → r .serial ≡ 0 → ⊥) → isNone (map rowSerial rows) ≡ eqb (serialAt 0 (map rowSerial rows)) 0
 counted [] f = refl
 counted (r ∷ rows) f = sym (ne-eqb (r .serial) 0 (f r (List·Memᴰ·head refl)))
 
@@ -132,7 +132,7 @@ module _ (bs : Bytes) (w : Whole bs) (a : ℕ) where
         -- ---- its row
         row-here : (rows : List Row)
             → flat.serialOfIndex a (map (rowWritten (formIn bs) (f .row .name)) (keep (ofSort (formIn bs) 2) rows))
-            ≡ serialAt 0 (map serialOf (keep (attributeNamed (o .attribute .name)) rows))
+            ≡ serialAt 0 (map rowSerial (keep (attributeNamed (o .attribute .name)) rows))
         unfolding keep
         row-here [] = refl
         row-here (r ∷ rows) = by (r .sort) refl (same (o .attribute .name) (r .name)) refl (row-here rows)
@@ -146,7 +146,7 @@ module _ (bs : Bytes) (w : Whole bs) (a : ℕ) where
             Flat l = flat.serialOfIndex a (map (rowWritten (formIn bs) (f .row .name)) l)
 
             Named : List Row → ℕ
-            Named l = serialAt 0 (map serialOf l)
+            Named l = serialAt 0 (map rowSerial l)
 
             past : ofSort (formIn bs) 2 r ≡ false → attributeNamed (o .attribute .name) r ≡ false → Flat (keep (ofSort (formIn bs) 2) rows) ≡ Named (keep (attributeNamed (o .attribute .name)) rows)
                 → Flat (keep (ofSort (formIn bs) 2) (r ∷ rows)) ≡ Named (keep (attributeNamed (o .attribute .name)) (r ∷ rows))
@@ -166,7 +166,7 @@ module _ (bs : Bytes) (w : Whole bs) (a : ℕ) where
                 ∙ l
                 ∙ sym (ap Named (keep-no (attributeNamed (o .attribute .name)) r rows (ap₂ (λ (x y : Bool). x && y) (ap isAttribute q) h)))
 
-        rows-are : childrenOf (attributeNamed (o .attribute .name)) k (rowsOf (storeIn bs)) ≡ map serialOf (keep (attributeNamed (o .attribute .name)) (heads (f .below)))
+        rows-are : childrenOf (attributeNamed (o .attribute .name)) k (rowsOf (storeIn bs)) ≡ map rowSerial (keep (attributeNamed (o .attribute .name)) (heads (f .below)))
         rows-are =
             ap (λ (z : ℕ). childrenOf (attributeNamed (o .attribute .name)) z (rowsOf (storeIn bs))) (sym (f .serial))
             ∙ children-are (storeIn bs .next) (docsIn bs) (w .good .serials) (attributeNamed (o .attribute .name)) (f .row) (f .below) (f .stands)

@@ -16,10 +16,9 @@ use Rattle.rules.specs.Change.{namesBefore, revalue, setting}
 use Rattle.rules.proofs.Words.{and-both, and-split}
 use Rattle.rules.proofs.Apart.{differs}
 use Rattle.rules.proofs.ConformingLaws.{begins, begins-this, strip-past, strip-take, strip-lacks, strip-wrong}
-use Rattle.change_laws.proofs.RowEdits.{keep}
+use Rattle.change_laws.proofs.RowEdits.{rowSerial, keep}
 use Rattle.change_laws.proofs.Untouched.{keep-in, map-same, revalued-other}
 use Rattle.change_laws.proofs.InstanceRows.{keep-none, keep-all}
-use Rattle.change_laws.proofs.StandingLaws.{serialOf}
 use Rattle.change_laws.proofs.AttributeEdits.{Step, took, passed, strip-step, noAttribute, owned-rows}
 
 -- what is stripped, if a test passes
@@ -257,7 +256,7 @@ module _ (n : Bytes) where
 
     pub strip-set : (version : ℕ) (a : Attribute) → a .name ≡ n → (table : List Attribute) (rows rest : List Row) → Distinct (map attributeName table)
         → all noAttribute rest ≡ true → strip version table rows ≡ some rest → List·Memᴰ a table
-        → Distinct (map serialOf rows) → (y : Row) (ys : List Row) → keep (attributeNamed n) rows ≡ y ∷ ys → m ≡ y .serial
+        → Distinct (map rowSerial rows) → (y : Row) (ys : List Row) → keep (attributeNamed n) rows ≡ y ∷ ys → m ≡ y .serial
         → strip version table (map (revalue m v) rows) ≡ given (allows (a .sort) (a .value) v) rest
     strip-set version a q [] rows rest d p e i u y ys k l = absurd (List·Memᴰ·not-nil i)
     strip-set version a q (c ∷ table) rows rest (new, d) p e i u y ys k l = by (List·Memᴰ·cases-cons i) (strip-step version c table rows rest e) (λ rows t. strip-set version a q table rows rest d p t)
@@ -271,17 +270,17 @@ module _ (n : Bytes) where
         this : a ≡ c → (r : Row) (more : List Row) → rows ≡ r ∷ more → begins (c .name) (r ∷ more) ≡ true → strip version table more ≡ some rest → Goal
         this z r more g b t =
             ap (λ (s : List Row). strip version (c ∷ table) (map (revalue m v) s)) g
-            ∙ ap (λ (s : List Row). strip version (c ∷ table) (revalue m v r ∷ s)) (map-same (revalue m v) more (λ s j. set-other s (λ w. fresh (Memᴰ·cast (sym mark ∙ sym w) (Memᴰ·map serialOf j)))))
+            ∙ ap (λ (s : List Row). strip version (c ∷ table) (revalue m v r ∷ s)) (map-same (revalue m v) more (λ s j. set-other s (λ w. fresh (Memᴰ·cast (sym mark ∙ sym w) (Memᴰ·map rowSerial j)))))
             ∙ by (allows (c .sort) (c .value) v) refl ∙ ap result (sym z)
           where
             kept : r ∷ keep (attributeNamed n) more ≡ y ∷ ys
             kept = sym (keep-named r more (is-named c r more b (sym q ∙ ap attributeName z))) ∙ sym (ap (keep (attributeNamed n)) g) ∙ k
 
             mark : m ≡ r .serial
-            mark = l ∙ sym (ap serialOf (first-same kept))
+            mark = l ∙ sym (ap rowSerial (first-same kept))
 
-            fresh : List·Memᴰ (r .serial) (map serialOf more) → ⊥
-            fresh = subst (λ (s : List Row). Distinct (map serialOf s)) g u .0
+            fresh : List·Memᴰ (r .serial) (map rowSerial more) → ⊥
+            fresh = subst (λ (s : List Row). Distinct (map rowSerial s)) g u .0
 
             by : (w : Bool) → allows (c .sort) (c .value) v ≡ w → strip version (c ∷ table) (revalue m v r ∷ more) ≡ result c
             by true w = strip-take version c table (revalue m v r) more (begins-revalued (c .name) r more ∙ b)
@@ -292,7 +291,7 @@ module _ (n : Bytes) where
                 ∙ sym (ap (λ (z : Bool). given z rest) w)
 
         by : (a ≡ c) ⊎ List·Memᴰ a table → Step version c table rows rest
-            → ((rows : List Row) → strip version table rows ≡ some rest → List·Memᴰ a table → Distinct (map serialOf rows) → (y : Row) (ys : List Row)
+            → ((rows : List Row) → strip version table rows ≡ some rest → List·Memᴰ a table → Distinct (map rowSerial rows) → (y : Row) (ys : List Row)
             → keep (attributeNamed n) rows ≡ y ∷ ys → m ≡ y .serial → strip version table (map (revalue m v) rows) ≡ result a)
             → Goal
         by (inl z) (took r more g b w t) h = this z r more g b t
@@ -301,10 +300,10 @@ module _ (n : Bytes) where
         by (inr j) (took r more g b w t) h =
             let off : attributeNamed n r ≡ false = not-named c r more b (later-name c table a new j q) in
             let kept : keep (attributeNamed n) more ≡ y ∷ ys = sym (keep-other r more off) ∙ sym (ap (keep (attributeNamed n)) g) ∙ k in
-            let (fresh, once) = subst (λ (s : List Row). Distinct (map serialOf s)) g u in
+            let (fresh, once) = subst (λ (s : List Row). Distinct (map rowSerial s)) g u in
             let there : List·Memᴰ y more = keep-in (attributeNamed n) more y (subst (λ (s : List Row). List·Memᴰ y s) (sym kept) (List·Memᴰ·head refl)) in
             ap (λ (s : List Row). strip version (c ∷ table) (map (revalue m v) s)) g
-            ∙ ap (λ (s : Row). strip version (c ∷ table) (s ∷ map (revalue m v) more)) (set-other r (λ z. fresh (Memᴰ·cast (z ∙ l) (Memᴰ·map serialOf there))))
+            ∙ ap (λ (s : Row). strip version (c ∷ table) (s ∷ map (revalue m v) more)) (set-other r (λ z. fresh (Memᴰ·cast (z ∙ l) (Memᴰ·map rowSerial there))))
             ∙ strip-take version c table r (map (revalue m v) more) (begins-same (c .name) r more (map (revalue m v) more) b) w
             ∙ h more t j once y ys kept l
         by (inr j) (passed b s t) h = strip-past version c table (map (revalue m v) rows) (begins-set (c .name) rows ∙ b) s ∙ h rows t j u y ys k l

@@ -18,10 +18,10 @@ use Rattle.rules.proofs.Words.{and-both}
 use Rattle.rules.proofs.Apart.{differs}
 use Rattle.rules.proofs.WellFormedLaws.{definition-good}
 use Rattle.rules.proofs.ConformingLaws.{strip-is, content-is, content-head}
-use Rattle.change_laws.proofs.RowEdits.{keep, plantRows, revalued, childrenAfter}
+use Rattle.change_laws.proofs.RowEdits.{rowSerial, keep, plantRows, revalued, childrenAfter}
 use Rattle.change_laws.proofs.Rowwise.{Standing}
 use Rattle.change_laws.proofs.FormLaws.{attribute-owned}
-use Rattle.change_laws.proofs.StandingLaws.{serialOf, standing-every, children-are, children-once}
+use Rattle.change_laws.proofs.StandingLaws.{standing-every, children-are, children-once}
 use Rattle.change_laws.proofs.Untouched.{keep-in, keep-alike, map-same, children-left, children-cut, children-kept, same-row, same-child, revalued-other}
 use Rattle.change_laws.proofs.Numbered.{mapped-row}
 use Rattle.change_laws.proofs.ConformingAfter.{fits-element}
@@ -174,7 +174,7 @@ module _ (s : Store) (g : Good s) (r : Row) (b : Forest Row) (i : Standing (s .d
         (λ z m e. ap (λ (t : Row). t .value)
         (revalued-other w z
         (λ l. f
-        (ap serialOf (one-parent (s .docs) (g .serials .once) (y .serial) u r c b j i (Memᴰ·cast (sym l) (Memᴰ·map serialOf m)) (Memᴰ·map serialOf there))))))
+        (ap rowSerial (one-parent (s .docs) (g .serials .once) (y .serial) u r c b j i (Memᴰ·cast (sym l) (Memᴰ·map rowSerial m)) (Memᴰ·map rowSerial there))))))
         ∙ h)
         ∙ ap (fitsRow (s .version) (s .form) (revalued w r)) (below r b)
         ∙ fits-element (s .version) (s .form) (revalued w r) (map (revalued w) (heads b)) is
@@ -200,7 +200,7 @@ module _ (s : Store) (g : Good s) (r : Row) (b : Forest Row) (i : Standing (s .d
         ∙ by (keep (attributeNamed n) (heads b)) refl
       where
         by : (l : List Row) → keep (attributeNamed n) (heads b) ≡ l
-            → conforming (s .version) (s .form) (changed (setAt (r .serial) o v (map serialOf l)) (s .docs))
+            → conforming (s .version) (s .form) (changed (setAt (r .serial) o v (map rowSerial l)) (s .docs))
             ≡ allows (o .attribute .sort) (o .attribute .value) v
         by [] k = added (λ y m. absent y m (attributeNamed n y) refl)
           where

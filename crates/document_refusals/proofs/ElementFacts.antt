@@ -20,11 +20,11 @@ use Rattle.rules.specs.Lines.{Line, lines, elementWith, findRow, childrenOf}
 use Rattle.rules.specs.Refusal.{rowsOf, noElement}
 use Rattle.rules.proofs.Words.{or-cases, and-both, and-split, below-or}
 use Rattle.rules.proofs.BooleanLaws.{any-in}
-use Rattle.change_laws.proofs.RowEdits.{keep}
+use Rattle.change_laws.proofs.RowEdits.{rowSerial, keep}
 use Rattle.change_laws.proofs.Rowwise.{Standing}
 use Rattle.change_laws.proofs.Untouched.{keep-alike}
 use Rattle.change_laws.proofs.StandingLaws as standing
-use Rattle.change_laws.proofs.StandingLaws.{serialOf, standing-every, standing-line, found-stands, one-row}
+use Rattle.change_laws.proofs.StandingLaws.{standing-every, standing-line, found-stands, one-row}
 use Rattle.layout.specs.Bodies.{widthOf, treeRowsIn}
 use Rattle.lookup.proofs.Laws.{from-step, from-none, some-same}
 use Rattle.store_check.proofs.IndexLaws.{Indexed, known-index}
@@ -207,7 +207,7 @@ module _ (bs : Bytes) (w : Whole bs) where
     pub texts-at : childrenAt bs 3 i ≡ map (rowWritten (formIn bs) (e .row .name)) (keep (λ r. isText (r .sort)) (heads (e .below)))
     texts-at = children-at 3 ∙ ap (map (rowWritten (formIn bs) (e .row .name))) (keep-alike (ofSort (formIn bs) 3) (λ r. isText (r .sort)) (λ r. code-text (r .sort)) (heads (e .below)))
 
-    serials-written : (owner : Bytes) (rows : List Row) → map serialIn (map (rowWritten (formIn bs) owner) rows) ≡ map serialOf rows
+    serials-written : (owner : Bytes) (rows : List Row) → map serialIn (map (rowWritten (formIn bs) owner) rows) ≡ map rowSerial rows
     serials-written owner [] = refl
     serials-written owner (r ∷ rows) = ap (λ (z : List ℕ). r .serial ∷ z) (serials-written owner rows)
 
@@ -218,7 +218,7 @@ module _ (bs : Bytes) (w : Whole bs) where
         ap (map serialIn) q ∙ serials-written (e .row .name) (keep test (heads (e .below)))
         ∙ sym children-in-docs
       where
-        children-in-docs : childrenOf test k (rowsOf (storeIn bs)) ≡ map serialOf (keep test (heads (e .below)))
+        children-in-docs : childrenOf test k (rowsOf (storeIn bs)) ≡ map rowSerial (keep test (heads (e .below)))
         children-in-docs =
             ap (λ (z : ℕ). childrenOf test z (rowsOf (storeIn bs))) (sym (e .serial))
             ∙ standing.children-are (storeIn bs .next) (docsIn bs) (w .good .serials) test (e .row) (e .below) (e .stands)

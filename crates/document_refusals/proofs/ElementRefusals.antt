@@ -19,10 +19,10 @@ use Rattle.rules.specs.Conforming.{nameOf, ElementRows, RowConforms, conforming
 use Rattle.rules.specs.Lines.{isElementRow, isTextRow, elementWith, childrenOf, serialAt}
 use Rattle.rules.specs.Change.{addDocument, addElement, destroyElement, nameAtIndex, after}
 use Rattle.rules.specs.Refusal.{Condition, _if_, first, conditions, past, rowsOf, noElement, badText, isComplex}
-use Rattle.change_laws.proofs.RowEdits.{keep}
+use Rattle.change_laws.proofs.RowEdits.{rowSerial, keep}
 use Rattle.change_laws.proofs.Conditions.{not-past}
 use Rattle.change_laws.proofs.Untouched.{keep-in}
-use Rattle.change_laws.proofs.StandingLaws.{serialOf, standing-child, standing-every, no-zero, children-are}
+use Rattle.change_laws.proofs.StandingLaws.{standing-child, standing-every, no-zero, children-are}
 use Rattle.model.specs.Steps.{runs}
 use Rattle.store_check.proofs.IndexLaws.{name-of}
 use Rattle.store_laws.specs.Stores.{storeIn}
@@ -48,10 +48,10 @@ keep-is test (s ∷ rows) r m = by (test s) refl (keep-is test rows r)
     by false e f = f (rw (e, keep) at m)
 
 -- number j is missing where there are no more than j
-counted : (j : ℕ) (rows : List Row) → ((r : Row) → List·Memᴰ r rows → r .serial ≡ 0 → ⊥) → eqb (serialAt j (map serialOf rows)) 0 ≡ ltb (length (map serialOf rows)) (suc j)
+counted : (j : ℕ) (rows : List Row) → ((r : Row) → List·Memᴰ r rows → r .serial ≡ 0 → ⊥) → eqb (serialAt j (map rowSerial rows)) 0 ≡ ltb (length (map rowSerial rows)) (suc j)
 counted j [] f = sym (lt-ltb 0 (suc j) (omega arith))
-counted zero (r ∷ rows) f = ne-eqb (r .serial) 0 (f r (List·Memᴰ·head refl)) ∙ sym (le-ltb (suc (length (map serialOf rows))) 1 (omega arith))
-counted (suc j) (r ∷ rows) f = counted j rows (λ s m. f s (List·Memᴰ·tail m)) ∙ shift (length (map serialOf rows)) (suc j)
+counted zero (r ∷ rows) f = ne-eqb (r .serial) 0 (f r (List·Memᴰ·head refl)) ∙ sym (le-ltb (suc (length (map rowSerial rows))) 1 (omega arith))
+counted (suc j) (r ∷ rows) f = counted j rows (λ s m. f s (List·Memᴰ·tail m)) ∙ shift (length (map rowSerial rows)) (suc j)
   where
     shift : (m n : ℕ) → ltb m n ≡ ltb (suc m) (suc n)
     shift m n = ⊎-elim (λ h. lt-ltb m n h ∙ sym (lt-ltb (suc m) (suc n) (omega arith))) (λ h. le-ltb m n h ∙ sym (le-ltb (suc m) (suc n) (omega arith))) (below-or m n)
@@ -102,11 +102,11 @@ module _ (bs : Bytes) (w : Whole bs) where
         ∙ in-model (word-more (formIn bs) (e .row .name) n (nameAtIndex n (formIn bs)) (name-of (formIn bs) n l) l j kids m plain)
 
     -- ---- how many there are
-    kids-of : childrenOf isElementRow k (rowsOf (storeIn bs)) ≡ map serialOf kids
+    kids-of : childrenOf isElementRow k (rowsOf (storeIn bs)) ≡ map rowSerial kids
     kids-of = ap (λ (z : ℕ). childrenOf isElementRow z (rowsOf (storeIn bs))) (sym (e .serial))
         ∙ children-are (storeIn bs .next) (docsIn bs) (w .good .serials) isElementRow (e .row) (e .below) (e .stands)
 
-    serials : map serialIn (childrenAt bs 1 i) ≡ map serialOf kids
+    serials : map serialIn (childrenAt bs 1 i) ≡ map rowSerial kids
     serials = serials-at bs w k i e 1 isElementRow (elements-at bs w k i e) ∙ kids-of
 
     place-more : (j : ℕ) → hasPlace bs i (suc j) ≡ not (eqb (serialAt (suc j - 1) (map serialIn (childrenAt bs 1 i))) 0)
@@ -201,7 +201,7 @@ module _ (bs : Bytes) (w : Whole bs) where
 
           few : j ≤ length (kids f)
           few = ⊎-elim (λ h. absurd (false≢true (sym within ∙ lt-ltb (length (childrenOf isElementRow k (rowsOf (storeIn bs)))) j h)))
-              (λ h. omega (arith, ap (λ (z : List ℕ). length z) (kids-of f), length-map (kids f) serialOf))
+              (λ h. omega (arith, ap (λ (z : List ℕ). length z) (kids-of f), length-map (kids f) rowSerial))
               (below-or (length (childrenOf isElementRow k (rowsOf (storeIn bs)))) j)
 
           after-added : conforming (storeIn bs .version) (formIn bs) (after (addElement k j n t) (storeIn bs) .docs) ≡ (isComplex (d f .content) && fitsAt bs i (suc j) n 0)

@@ -22,9 +22,8 @@ use Rattle.rules.proofs.Words.{and-both, and-split}
 use Rattle.rules.proofs.Apart.{differs}
 use Rattle.rules.proofs.Correct.{distinct-right, distinct-apart}
 use Rattle.rules.proofs.ConformingLaws.{headAttribute, strip-is, content-head, sorted-is}
-use Rattle.change_laws.proofs.RowEdits.{keep, plantRows}
+use Rattle.change_laws.proofs.RowEdits.{rowSerial, keep, plantRows}
 use Rattle.change_laws.proofs.InstanceRows.{keep-all, keep-none, keep-beside, keep-in, plant-not}
-use Rattle.change_laws.proofs.StandingLaws.{serialOf}
 
 -- x put in before number j, or last
 abbrev pub putAt : {A : Type 0} → ℕ → A → List A → List A
@@ -68,15 +67,15 @@ module _ (p : Plan) (u n : Row) (m : ℕ) (one : heads (p .filling) ≡ n ∷ []
   plant-front (r ∷ front) back f =
       plant-past r (front ++ back) (f r (List·Memᴰ·head refl)) ∙ ap (λ (z : List Row). r ∷ z) (plant-front front back (λ s i. f s (List·Memᴰ·tail i)))
 
-  plant-put : (j : ℕ) (rows : List Row) → Distinct (map serialOf rows) → ((r : Row) → List·Memᴰ r rows → r .serial ≡ 0 → ⊥) → m ≡ serialAt j (map serialOf rows)
+  plant-put : (j : ℕ) (rows : List Row) → Distinct (map rowSerial rows) → ((r : Row) → List·Memᴰ r rows → r .serial ≡ 0 → ⊥) → m ≡ serialAt j (map rowSerial rows)
       → j ≤ length rows → plantRows p u true rows ≡ putAt j n rows
   plant-put zero [] d z e l = plant-nil
   plant-put (suc j) [] d z e l = absurd (omega arith)
   plant-put zero (r ∷ rows) d z e l = plant-this r rows (sym e)
   plant-put (suc j) (r ∷ rows) (new, d) z e l =
-      plant-past r rows (λ q. apart (serial-in j (map serialOf rows)) (q ∙ e)) ∙ ap (λ (y : List Row). r ∷ y) (plant-put j rows d (λ s i. z s (List·Memᴰ·tail i)) e (omega arith))
+      plant-past r rows (λ q. apart (serial-in j (map rowSerial rows)) (q ∙ e)) ∙ ap (λ (y : List Row). r ∷ y) (plant-put j rows d (λ s i. z s (List·Memᴰ·tail i)) e (omega arith))
     where
-      apart : (serialAt j (map serialOf rows) ≡ 0) ⊎ List·Memᴰ (serialAt j (map serialOf rows)) (map serialOf rows) → r .serial ≡ serialAt j (map serialOf rows) → ⊥
+      apart : (serialAt j (map rowSerial rows) ≡ 0) ⊎ List·Memᴰ (serialAt j (map rowSerial rows)) (map rowSerial rows) → r .serial ≡ serialAt j (map rowSerial rows) → ⊥
       apart (inl h) q = z r (List·Memᴰ·head refl) (q ∙ h)
       apart (inr i) q = new (Memᴰ·cast q i)
 
@@ -102,10 +101,10 @@ module _ {version : ℕ} (d : Definition) (apart : Distinct (map attributeName (
 
   -- ---- with a new element before the one with serial m
   module _ (p : Plan) (u n : Row) (m : ℕ) (one : heads (p .filling) ≡ n ∷ []) (later : (r : Row) → p .later u r ≡ eqb (r .serial) m) (is : n .sort ≡ element)
-      (once : Distinct (map serialOf rows)) (given : (r : Row) → List·Memᴰ r rows → r .serial ≡ 0 → ⊥)
-      (j : ℕ) (at : m ≡ serialAt j (map serialOf (keep isElementRow rows))) (within : j ≤ length (keep isElementRow rows)) where
-    parted : Distinct (map serialOf (x .front) ++ map serialOf (x .back))
-    parted = subst (λ (z : List ℕ). Distinct z) (ap (λ (z : List Row). map serialOf z) (sym (x .split)) ∙ map-append serialOf (x .front) (x .back)) once
+      (once : Distinct (map rowSerial rows)) (given : (r : Row) → List·Memᴰ r rows → r .serial ≡ 0 → ⊥)
+      (j : ℕ) (at : m ≡ serialAt j (map rowSerial (keep isElementRow rows))) (within : j ≤ length (keep isElementRow rows)) where
+    parted : Distinct (map rowSerial (x .front) ++ map rowSerial (x .back))
+    parted = subst (λ (z : List ℕ). Distinct z) (ap (λ (z : List Row). map rowSerial z) (sym (x .split)) ∙ map-append rowSerial (x .front) (x .back)) once
 
     in-back : (r : Row) → List·Memᴰ r (x .back) → List·Memᴰ r rows
     in-back r i = subst (λ (z : List Row). List·Memᴰ r z) (x .split) (Memᴰ·append-right (x .front) i)
@@ -114,13 +113,14 @@ module _ {version : ℕ} (d : Definition) (apart : Distinct (map attributeName (
     in-front r i = subst (λ (z : List Row). List·Memᴰ r z) (x .split) (Memᴰ·append-left (x .back) i)
 
     front-off : (r : Row) → List·Memᴰ r (x .front) → r .serial ≡ m → ⊥
-    front-off r i e = by (serial-in j (map serialOf (keep isElementRow rows)))
+    front-off r i e = by (serial-in j (map rowSerial (keep isElementRow rows)))
       where
-        by : (serialAt j (map serialOf (keep isElementRow rows)) ≡ 0) ⊎ List·Memᴰ (serialAt j (map serialOf (keep isElementRow rows))) (map serialOf (keep isElementRow rows)) → ⊥
+        by : (serialAt j (map rowSerial (keep isElementRow rows)) ≡ 0) ⊎ List·Memᴰ (serialAt j (map rowSerial (keep isElementRow rows))) (map rowSerial (keep isElementRow rows)) → ⊥
         by (inl h) = given r (in-front r i) (e ∙ at ∙ h)
         by (inr k) =
-            let (s, g, q) = Memᴰ·of-map serialOf (keep isElementRow (x .back)) (subst (λ (z : List Row). List·Memᴰ m (map serialOf z)) keep-elements (Memᴰ·cast at k)) in
-            distinct-apart (map serialOf (x .front)) (map serialOf (x .back)) parted (r .serial) (Memᴰ·map serialOf i) (Memᴰ·cast (e ∙ sym q) (Memᴰ·map serialOf (keep-in isElementRow (x .back) s g)))
+            let (s, g, q) = Memᴰ·of-map rowSerial (keep isElementRow (x .back)) (subst (λ (z : List Row). List·Memᴰ m (map rowSerial z)) keep-elements (Memᴰ·cast at k)) in
+            distinct-apart (map rowSerial (x .front)) (map rowSerial (x .back)) parted (r .serial) (Memᴰ·map rowSerial i)
+            (Memᴰ·cast (e ∙ sym q) (Memᴰ·map rowSerial (keep-in isElementRow (x .back) s g)))
 
     planted : plantRows p u true rows ≡ x .front ++ plantRows p u true (x .back)
     planted = ap (plantRows p u true) (sym (x .split)) ∙ plant-front p u n m one later (x .front) (x .back) front-off
@@ -138,7 +138,7 @@ module _ {version : ℕ} (d : Definition) (apart : Distinct (map attributeName (
             ap (plantRows p u true) (q ∙ sym (append-nil back))
             ∙ plant-front p u n m one later back []
             (λ r i g. given r (in-back r (subst (λ (z : List Row). List·Memᴰ r z) (sym q) i))
-            (g ∙ at ∙ ap (λ (z : List Row). serialAt j (map serialOf z)) (keep-elements ∙ ap (keep isElementRow) q ∙ e) ∙ none-at j))
+            (g ∙ at ∙ ap (λ (z : List Row). serialAt j (map rowSerial z)) (keep-elements ∙ ap (keep isElementRow) q ∙ e) ∙ none-at j))
             ∙ ap (λ (z : List Row). back ++ z) (plant-nil p u n m one later)
           where
             none-at : (i : ℕ) → serialAt i [] ≡ 0
@@ -168,8 +168,8 @@ module _ {version : ℕ} (d : Definition) (apart : Distinct (map attributeName (
             let elements : all (λ (r : Row). isElement (r .sort)) (x .back) ≡ true = sorted-is (x .back) .1 s in
             let kept : keep isElementRow rows ≡ x .back = keep-elements ∙ keep-all isElementRow (x .back) (λ r i. ap isElement (s r i)) in
             let put : plantRows p u true (x .back) ≡ putAt j n (x .back) =
-            plant-put p u n m one later j (x .back) (distinct-right (map serialOf (x .front)) (map serialOf (x .back)) parted) (λ r i. given r (in-back r i))
-            (at ∙ ap (λ (z : List Row). serialAt j (map serialOf z)) kept) (subst (λ (z : List Row). j ≤ length z) kept within) in
+            plant-put p u n m one later j (x .back) (distinct-right (map rowSerial (x .front)) (map rowSerial (x .back)) parted) (λ r i. given r (in-back r i))
+            (at ∙ ap (λ (z : List Row). serialAt j (map rowSerial z)) kept) (subst (λ (z : List Row). j ≤ length z) kept within) in
             ap (fitsDefinition version (some d)) (planted ∙ ap (λ (z : List Row). x .front ++ z) put)
             ∙ refit (putAt j n (x .back)) (head-put j (x .back) (content-head (d .content) (x .back) (x .content)))
             ∙ ap (λ (c : Content). fits c (putAt j n (x .back))) q

@@ -25,10 +25,10 @@ use Rattle.rules.proofs.Height.{deep}
 use Rattle.rules.proofs.WellFormedLaws.{well-formed, definition-good, definition-deep}
 use Rattle.rules.proofs.ConformingLaws.{conforming-is}
 use Rattle.rules.proofs.FillingLaws.{filling-heads, filling-fits}
-use Rattle.change_laws.proofs.RowEdits.{keep, plantRows, revalued, childrenAfter}
+use Rattle.change_laws.proofs.RowEdits.{rowSerial, keep, plantRows, revalued, childrenAfter}
 use Rattle.change_laws.proofs.Rowwise.{Standing}
 use Rattle.change_laws.proofs.FormLaws.{definition-found}
-use Rattle.change_laws.proofs.StandingLaws.{serialOf, standing-head, standing-below, standing-serial, one-row, children-are, children-once, children-given}
+use Rattle.change_laws.proofs.StandingLaws.{standing-head, standing-below, standing-serial, one-row, children-are, children-once, children-given}
 use Rattle.change_laws.proofs.Untouched.{keep-in, map-same, children-left, children-cut, children-kept, same-row, same-child}
 use Rattle.change_laws.proofs.Numbered.{conforming-number}
 use Rattle.change_laws.proofs.ConformingAfter.{conforming-changed, fits-element}
@@ -131,7 +131,7 @@ module _ (s : Store) (g : Good s) where
         where
           inside : (u ≡ r) ⊎ Standing c r b → List·Memᴰ (y .serial) (serials c)
           inside (inl h) =
-              let (h₁, h₂) = one-row (s .next) (s .docs) (g .serials) u r c b j i (ap serialOf h) in
+              let (h₁, h₂) = one-row (s .next) (s .docs) (g .serials) u r c b j i (ap rowSerial h) in
               let (e, o) = standing-head b y m in
               subst (λ (f : Forest Row). List·Memᴰ (y .serial) (serials f)) (sym h₂) (standing-serial b y e o)
           inside (inr h) =
@@ -141,7 +141,7 @@ module _ (s : Store) (g : Good s) where
       untouched : (u : Row) (c : Forest Row) → Standing (s .docs) u c → (u .serial ≡ r .serial → ⊥) → (z : Row) → List·Memᴰ z (heads c) → elementWith k z ≡ false
       untouched u c j f z o =
           not-taken z
-          (λ e. f (ap serialOf (one-parent (s .docs) (g .serials .once) k u r c b j i (Memᴰ·cast (sym e) (Memᴰ·map serialOf o)) (Memᴰ·cast (sym serial-here) (Memᴰ·map serialOf m)))))
+          (λ e. f (ap rowSerial (one-parent (s .docs) (g .serials .once) k u r c b j i (Memᴰ·cast (sym e) (Memᴰ·map rowSerial o)) (Memᴰ·cast (sym serial-here) (Memᴰ·map rowSerial m)))))
 
       pub destroy-conforms : conforming (s .version) (s .form) (after (destroyElement k) s .docs)
           ≡ accepts bytes (members d) (map nameOf (keep (λ z. not (elementWith k z)) (keep isElementRow (heads b))))

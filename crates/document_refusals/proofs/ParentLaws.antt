@@ -8,11 +8,12 @@ use Rattle.rules.specs.Store.{Row, Forest, bare, tree, heads}
 use Rattle.rules.specs.Passing.{serials}
 use Rattle.rules.proofs.Correct.{distinct-left, distinct-right, distinct-apart}
 use Rattle.change_laws.proofs.Rowwise.{Standing}
-use Rattle.change_laws.proofs.StandingLaws.{serialOf, standing-head, standing-serial}
+use Rattle.change_laws.proofs.RowEdits.{rowSerial}
+use Rattle.change_laws.proofs.StandingLaws.{standing-head, standing-serial}
 
-heads-in : (f : Forest Row) (k : ℕ) → List·Memᴰ k (map serialOf (heads f)) → List·Memᴰ k (serials f)
+heads-in : (f : Forest Row) (k : ℕ) → List·Memᴰ k (map rowSerial (heads f)) → List·Memᴰ k (serials f)
 heads-in f k m =
-    let (r, i, e) = Memᴰ·of-map serialOf (heads f) m in
+    let (r, i, e) = Memᴰ·of-map rowSerial (heads f) m in
     let (b, j) = standing-head f r i in
     Memᴰ·cast (sym e) (standing-serial f r b j)
 
@@ -24,20 +25,20 @@ below-in (tree r b t) s c k (inr (inr i)) m = List·Memᴰ·tail (Memᴰ·append
 
 pub not-below : (f : Forest Row) → Distinct (serials f) → (r : Row) (b : Forest Row) → Standing f r b → List·Memᴰ (r .serial) (serials b) → ⊥
 not-below bare d r b i m = absurd i
-not-below (tree s c t) (n, d) r b (inl (x, y)) m = n (Memᴰ·append-left (serials t) (Memᴰ·cast (ap serialOf x) (subst (λ (z : Forest Row). List·Memᴰ (r .serial) (serials z)) (sym y) m)))
+not-below (tree s c t) (n, d) r b (inl (x, y)) m = n (Memᴰ·append-left (serials t) (Memᴰ·cast (ap rowSerial x) (subst (λ (z : Forest Row). List·Memᴰ (r .serial) (serials z)) (sym y) m)))
 not-below (tree s c t) (n, d) r b (inr (inl i)) m = not-below c (distinct-left (serials c) (serials t) d) r b i m
 not-below (tree s c t) (n, d) r b (inr (inr i)) m = not-below t (distinct-right (serials c) (serials t) d) r b i m
 
 -- a row at the top does not stand below another
-head-above : (f : Forest Row) → Distinct (serials f) → (k : ℕ) → List·Memᴰ k (map serialOf (heads f)) → (s : Row) (c : Forest Row) → Standing f s c → List·Memᴰ k (serials c) → ⊥
+head-above : (f : Forest Row) → Distinct (serials f) → (k : ℕ) → List·Memᴰ k (map rowSerial (heads f)) → (s : Row) (c : Forest Row) → Standing f s c → List·Memᴰ k (serials c) → ⊥
 head-above bare d k h s c i m = absurd i
 head-above (tree r b t) (n, d) k h s c i m = by (List·Memᴰ·cases-cons h) i (head-above t (distinct-right (serials b) (serials t) d) k)
   where
-    in-t : List·Memᴰ k (map serialOf (heads t)) → List·Memᴰ k (serials t)
+    in-t : List·Memᴰ k (map rowSerial (heads t)) → List·Memᴰ k (serials t)
     in-t j = heads-in t k j
 
-    by : (k ≡ r .serial) ⊎ List·Memᴰ k (map serialOf (heads t)) → Standing (tree r b t) s c
-        → (List·Memᴰ k (map serialOf (heads t)) → (s : Row) (c : Forest Row) → Standing t s c → List·Memᴰ k (serials c) → ⊥) → ⊥
+    by : (k ≡ r .serial) ⊎ List·Memᴰ k (map rowSerial (heads t)) → Standing (tree r b t) s c
+        → (List·Memᴰ k (map rowSerial (heads t)) → (s : Row) (c : Forest Row) → Standing t s c → List·Memᴰ k (serials c) → ⊥) → ⊥
     by (inl e) (inl (x, y)) f = n (Memᴰ·append-left (serials t) (Memᴰ·cast (sym e) (subst (λ (z : Forest Row). List·Memᴰ k (serials z)) (sym y) m)))
     by (inl e) (inr (inl j)) f = n (Memᴰ·append-left (serials t) (Memᴰ·cast (sym e) (below-in b s c k j m)))
     by (inl e) (inr (inr j)) f = n (Memᴰ·append-right (serials b) (Memᴰ·cast (sym e) (below-in t s c k j m)))
@@ -46,20 +47,20 @@ head-above (tree r b t) (n, d) k h s c i m = by (List·Memᴰ·cases-cons h) i (
     by (inr g) (inr (inr j)) f = f g s c j m
 
 pub one-parent : (f : Forest Row) → Distinct (serials f) → (k : ℕ) (u s : Row) (b c : Forest Row) → Standing f u b → Standing f s c
-    → List·Memᴰ k (map serialOf (heads b)) → List·Memᴰ k (map serialOf (heads c)) → u ≡ s
+    → List·Memᴰ k (map rowSerial (heads b)) → List·Memᴰ k (map rowSerial (heads c)) → u ≡ s
 one-parent bare d k u s b c i j p q = absurd i
 one-parent (tree r a t) (n, d) k u s b c (inl (x, y)) (inl (z, w)) p q = sym x ∙ z
 one-parent (tree r a t) (n, d) k u s b c (inl (x, y)) (inr (inl j)) p q =
-    absurd (head-above a (distinct-left (serials a) (serials t) d) k (subst (λ (z : Forest Row). List·Memᴰ k (map serialOf (heads z))) (sym y) p) s c j (heads-in c k q))
+    absurd (head-above a (distinct-left (serials a) (serials t) d) k (subst (λ (z : Forest Row). List·Memᴰ k (map rowSerial (heads z))) (sym y) p) s c j (heads-in c k q))
 one-parent (tree r a t) (n, d) k u s b c (inl (x, y)) (inr (inr j)) p q =
-    absurd (distinct-apart (serials a) (serials t) d k (heads-in a k (subst (λ (z : Forest Row). List·Memᴰ k (map serialOf (heads z))) (sym y) p)) (below-in t s c k j (heads-in c k q)))
+    absurd (distinct-apart (serials a) (serials t) d k (heads-in a k (subst (λ (z : Forest Row). List·Memᴰ k (map rowSerial (heads z))) (sym y) p)) (below-in t s c k j (heads-in c k q)))
 one-parent (tree r a t) (n, d) k u s b c (inr (inl i)) (inl (z, w)) p q =
-    absurd (head-above a (distinct-left (serials a) (serials t) d) k (subst (λ (z : Forest Row). List·Memᴰ k (map serialOf (heads z))) (sym w) q) u b i (heads-in b k p))
+    absurd (head-above a (distinct-left (serials a) (serials t) d) k (subst (λ (z : Forest Row). List·Memᴰ k (map rowSerial (heads z))) (sym w) q) u b i (heads-in b k p))
 one-parent (tree r a t) (n, d) k u s b c (inr (inl i)) (inr (inl j)) p q = one-parent a (distinct-left (serials a) (serials t) d) k u s b c i j p q
 one-parent (tree r a t) (n, d) k u s b c (inr (inl i)) (inr (inr j)) p q =
     absurd (distinct-apart (serials a) (serials t) d k (below-in a u b k i (heads-in b k p)) (below-in t s c k j (heads-in c k q)))
 one-parent (tree r a t) (n, d) k u s b c (inr (inr i)) (inl (z, w)) p q =
-    absurd (distinct-apart (serials a) (serials t) d k (heads-in a k (subst (λ (z : Forest Row). List·Memᴰ k (map serialOf (heads z))) (sym w) q)) (below-in t u b k i (heads-in b k p)))
+    absurd (distinct-apart (serials a) (serials t) d k (heads-in a k (subst (λ (z : Forest Row). List·Memᴰ k (map rowSerial (heads z))) (sym w) q)) (below-in t u b k i (heads-in b k p)))
 one-parent (tree r a t) (n, d) k u s b c (inr (inr i)) (inr (inl j)) p q =
     absurd (distinct-apart (serials a) (serials t) d k (below-in a s c k j (heads-in c k q)) (below-in t u b k i (heads-in b k p)))
 one-parent (tree r a t) (n, d) k u s b c (inr (inr i)) (inr (inr j)) p q = one-parent t (distinct-right (serials a) (serials t) d) k u s b c i j p q

@@ -15,7 +15,7 @@ use Rattle.store_laws.proofs.StoreLaws.{Holds, holds}
 use Rattle.store_writer.proofs.CallLaws.{passed}
 use Rattle.store_check.proofs.StoreFacts.{value-given}
 use Rattle.plans.specs.CallPlans.{childSerial, addElementPlan}
-use Rattle.call_laws.proofs.Calls.{few-definitions, unmoved-small, Asks}
+use Rattle.call_laws.proofs.Calls.{good-few-definitions, unmoved-small, Asks}
 
 module _ (bs : Bytes) {b : Bool} {m : ℕ} (h : not b ≡ false) (e : b ≡ passes bs) where
   pub add-element-asks : (k j i : ℕ) (t : Bytes) {q : Plan} → m ≡ first (conditions (addElement k j i t) (storeIn bs)) → m ≡ 0 → q ≡ addElementPlan k (childSerial k j (storeIn bs)) i → Asks bs t q
@@ -23,7 +23,7 @@ module _ (bs : Bytes) {b : Bool} {m : ℕ} (h : not b ≡ false) (e : b ≡ pass
   add-element-asks k j i t {q} f z same =
       let kept : Holds bs = holds bs (passed bs h e) in
       let (text, (index, more)) = none-holds (addElement k j i t) (storeIn bs) (sym f ∙ z) in
-      let i-few : i ≤ 256 = omega (arith, not-past i (storeIn bs .form) index, few-definitions (storeIn bs) (kept .good)) in
+      let i-few : i ≤ 256 = omega (arith, not-past i (storeIn bs .form) index, good-few-definitions (storeIn bs) (kept .good)) in
       (passed bs h e, value-given bs t text, subst Sized (sym same) (record { moves = unmoved-small (addElementPlan k (childSerial k j (storeIn bs)) i) refl refl; filling = i-few }))
 
   -- the element is there

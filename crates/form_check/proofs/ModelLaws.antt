@@ -18,7 +18,7 @@ use Rattle.rules.proofs.PreorderLaws.{rising, build-same, build-less, build-mor
 use Rattle.rules.proofs.BooleanLaws.{none-long}
 use Rattle.codec.specs.Part.{partOf}
 use Rattle.form_check.specs.FormTests.{particleFits, shaped, elementsIn, modelFits, modelsFit}
-use Rattle.form_check.specs.Bodies.{particlesRead, apart, sameElement, countFits, countBeside, stands, walks}
+use Rattle.form_check.specs.Bodies.{particlesRead, apart, sameElement, countFits, countBeside, particleStands, walks}
 use Rattle.form_check.proofs.Reading.{particles-part}
 
 -- ---- the scan that counts members
@@ -50,26 +50,27 @@ module _ (n : ℕ) (p : FlatParticle) (below : ℕ) {s q x : ℕ} (hs : s ≡ p 
   count-group h = rw (hq, hx, countFits, ne-eqb (p .sort) 0 (λ e. h (hs ∙ e)), hs)
 
 module _ (n d : ℕ) (p : Deep FlatParticle) (after : List (Deep FlatParticle)) {k : ℕ} (hk : k ≡ p .depth) where
-  pub stands-low : 4 < k → stands n d p after ≡ false
-  unfolding stands
-  stands-low h = rw (stands, ← hk, lt-leb k 4 h)
+  pub stands-low : 4 < k → particleStands n d p after ≡ false
+  unfolding particleStands
+  stands-low h = rw (particleStands, ← hk, lt-leb k 4 h)
 
-  pub stands-far : k ≤ 4 → d < k → stands n d p after ≡ false
-  unfolding stands
-  stands-far h g = rw (stands, ← hk, le-leb k 4 h, lt-leb k d g)
+  pub stands-far : k ≤ 4 → d < k → particleStands n d p after ≡ false
+  unfolding particleStands
+  stands-far h g = rw (particleStands, ← hk, le-leb k 4 h, lt-leb k d g)
 
-  pub stands-by : {m : ℕ} {f again : Bool} → k ≤ 4 → k ≤ d → m ≡ countBeside (k + 1) after → f ≡ countFits n (p .row) m → again ≡ any (sameElement p) after → (f && not again) ≡ stands n d p after
-  unfolding stands
-  stands-by h g hm hf ha = rw (hf, hm, ha, stands, ← hk, le-leb k 4 h, le-leb k d g, add-one)
+  pub stands-by : {m : ℕ} {f again : Bool} → k ≤ 4 → k ≤ d → m ≡ countBeside (k + 1) after → f ≡ countFits n (p .row) m → again ≡ any (sameElement p) after
+      → (f && not again) ≡ particleStands n d p after
+  unfolding particleStands
+  stands-by h g hm hf ha = rw (hf, hm, ha, particleStands, ← hk, le-leb k 4 h, le-leb k d g, add-one)
 
-pub stands-depth : (n d : ℕ) (p : Deep FlatParticle) (after : List (Deep FlatParticle)) {b : Bool} → b ≡ stands n d p after → not b ≡ false → p .depth ≤ 4
-unfolding stands
+pub stands-depth : (n d : ℕ) (p : Deep FlatParticle) (after : List (Deep FlatParticle)) {b : Bool} → b ≡ particleStands n d p after → not b ≡ false → p .depth ≤ 4
+unfolding particleStands
 stands-depth n d p after {b} e h =
     leb-true (p .depth) 4
     (and-left (leb (p .depth) 4) (leb (p .depth) d && (countFits n (p .row) (countBeside (suc (p .depth)) after) && not (any (sameElement p) after))) (sym e ∙ not-false b h))
 
 -- ---- the walk
-module _ (n d : ℕ) {l rest : List (Deep FlatParticle)} {p : Deep FlatParticle} {b : Bool} (e : l ≡ p ∷ rest) (g : b ≡ stands n d p rest) where
+module _ (n d : ℕ) {l rest : List (Deep FlatParticle)} {p : Deep FlatParticle} {b : Bool} (e : l ≡ p ∷ rest) (g : b ≡ particleStands n d p rest) where
   pub walks-off : not b ≡ true → walks n d l ≡ false
   unfolding walks
   walks-off h = rw (e, walks, ← g, not-true b h)
@@ -194,10 +195,10 @@ abbrev low : Deep FlatParticle → Bool
 low p = leb (p .depth) 4
 
 walks-parts : (n d : ℕ) (ps : List (Deep FlatParticle)) → walks n d ps ≡ (all low ps && (rising d ps && (each n ps && apart sameElement ps)))
-unfolding walks stands each apart
+unfolding walks particleStands each apart
 walks-parts n d [] = refl
 walks-parts n d (p ∷ ps) =
-    ap (λ (b : Bool). stands n d p ps && b) (walks-parts n (suc (p .depth)) ps)
+    ap (λ (b : Bool). particleStands n d p ps && b) (walks-parts n (suc (p .depth)) ps)
     ∙ regroup (low p) (leb (p .depth) d) (countFits n (p .row) (countBeside (suc (p .depth)) ps)) (not (any (sameElement p) ps)) (all low ps)
     (rising (suc (p .depth)) ps) (each n ps) (apart sameElement ps)
 

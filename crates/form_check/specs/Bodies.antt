@@ -80,9 +80,9 @@ unfoldable pub countBeside : ℕ → List (Deep FlatParticle) → ℕ
 countBeside k ps = length (heads (build ps k))
 
 -- a particle where depth d is allowed, with the particles after it
-unfoldable pub stands : ℕ → ℕ → Deep FlatParticle → List (Deep FlatParticle) → Bool
-stands n d p after = leb (p .depth) 4 && (leb (p .depth) d && (countFits n (p .row) (countBeside (suc (p .depth)) after) && not (any (sameElement p) after)))
+unfoldable pub particleStands : ℕ → ℕ → Deep FlatParticle → List (Deep FlatParticle) → Bool
+particleStands n d p after = leb (p .depth) 4 && (leb (p .depth) d && (countFits n (p .row) (countBeside (suc (p .depth)) after) && not (any (sameElement p) after)))
 
 unfoldable pub walks : ℕ → ℕ → List (Deep FlatParticle) → Bool
 walks n d [] = true
-walks n d (p ∷ ps) = stands n d p ps && walks n (suc (p .depth)) ps
+walks n d (p ∷ ps) = particleStands n d p ps && walks n (suc (p .depth)) ps

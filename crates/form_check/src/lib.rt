@@ -7,7 +7,7 @@ ghost use Rattle.rules.specs.Layout.{definitionSize, particleSize, attributeSiz
 ghost use Rattle.layout.specs.Bodies.{Width};
 ghost use Rattle.form_check.specs.FormTests.{clashes, definitionsApart, modelFits, modelsFit, ownersRise, attributesApart, bodiesFit};
 ghost use Rattle.form_check.specs.Bodies.{Body, definitionRecordAt, particleRecordAt, attributeRecordAt, definitions, particlesRead, attributes, Bodies};
-ghost use Rattle.form_check.specs.Bodies.{formOfBodies, sameName, sameElement, countFits, countBeside, stands};
+ghost use Rattle.form_check.specs.Bodies.{formOfBodies, sameName, sameElement, countFits, countBeside, particleStands};
 
 // the sort of a particle that is an element; the others are groups
 const ELEMENT: usize = 0;
@@ -180,7 +180,7 @@ fn element_again(m: usize, parts: &[u8], i: usize) -> bool
 // Whether particle i of a model can stand where depth d is allowed.
 fn particle_stands(n: usize, m: usize, parts: &[u8], i: usize, d: usize) -> bool
     requires { ⌜ (m ≤ 256) × (i < m) ⌝ }
-    ensures { λ r. ⌜ r ≡ stands n d (particleRecordAt i (now (parts .entry))) (drop (i + 1) (particlesRead m (now (parts .entry)))) ⌝ }
+    ensures { λ r. ⌜ r ≡ particleStands n d (particleRecordAt i (now (parts .entry))) (drop (i + 1) (particlesRead m (now (parts .entry)))) ⌝ }
 {
     let depth = layout::particle_depth_at(parts, i);
     if 4 < depth {

@@ -1,62 +1,46 @@
 -- An instance of a definition exists: said by its name, and by its index.
 use Prim.Native.Nat.{ℕ, suc, _<_}
 use mathlib.Core.Path.{_≡_, refl, sym, ap, ap₂, _∙_}
-use mathlib.Core.Bool.{Bool, true, _&&_, _||_}
-use mathlib.Core.Option.{some}
-use mathlib.Core.List.{List, [], map}
+use mathlib.Core.Bool.{Bool, _&&_, _||_}
+use mathlib.Core.List.{[], map}
 use lib.Dec.{eqb}
 use lib.ListN.{length}
 use Rattle.rules.specs.Bytes.{Bytes, any}
 use Rattle.rules.specs.Model.{Distinct}
-use Rattle.rules.specs.Store.{Definition, Form, RowSort, element, attribute, text, Row, Forest, bare, tree, heads}
+use Rattle.rules.specs.Store.{Form, Row, Forest, bare, tree}
 use Rattle.rules.specs.Preorder.{flatten}
-use Rattle.rules.specs.Layout.{rowSize, indexed, rowCode, rowIndex}
+use Rattle.rules.specs.Layout.{rowSize, indexed}
 use Rattle.rules.specs.Decode.{readRow, readMany, rowCount}
-use Rattle.rules.specs.WellFormed.{known, definitionName, lookup, isThere}
-use Rattle.rules.specs.Conforming.{EveryRow, RowConforms, ElementRows}
+use Rattle.rules.specs.WellFormed.{definitionName}
 use Rattle.rules.specs.Lines.{Line, lines, elementNamed}
 use Rattle.rules.specs.Change.{nameAtIndex}
 use Rattle.rules.specs.Refusal.{instanceExists}
 use Rattle.layout.specs.Bodies.{widthOf, WidthIn, Number, treeRowsIn}
 use Rattle.lookup.proofs.Laws.{from-all}
 use Rattle.rules.proofs.BooleanLaws.{any-append}
-use Rattle.store_check.proofs.IndexLaws.{index-same}
+use Rattle.store_check.proofs.IndexLaws.{element-test}
 use Rattle.store_laws.specs.Stores.{storeIn}
 use Rattle.store_check.proofs.StoreFacts.{formIn, docsIn, Whole}
 use Rattle.instance_search.specs.Instances.{instanceRow}
 
-module _ (version : ℕ) (form : Form) (once : Distinct (map definitionName form)) (i : ℕ) (h : i < length form) where
+module _ (form : Form) (once : Distinct (map definitionName form)) (i : ℕ) (h : i < length form) where
   abbrev n : Bytes
   n = nameAtIndex i form
 
-  known-row : (r : Row) (below : List Row) → r .sort ≡ element → RowConforms version form r below → known form (r .name) ≡ true
-  known-row r below q x = ap isThere (told .1)
-    where
-      told : (d : Definition) × (lookup (r .name) form ≡ some d) × ElementRows version d below
-      told = rw q at x
-
-  row-same : (owner : Bytes) (r : Row) (below : List Row) → RowConforms version form r below → (eqb (rowCode (r .sort)) 1 && eqb (rowIndex form owner r) i) ≡ elementNamed n r
-  row-same owner r below x = by (r .sort) refl
-    where
-      by : (s : RowSort) → r .sort ≡ s → (eqb (rowCode (r .sort)) 1 && eqb (rowIndex form owner r) i) ≡ elementNamed n r
-      by element q = rw (q, rowIndex) (index-same form once i h (r .name) (known-row r below q x))
-      by attribute q = rw q refl
-      by text q = rw q refl
-
-  rows-have : (d : ℕ) (owner : Bytes) (up : ℕ) (f : Forest Row) → EveryRow (λ r below. RowConforms version form r below) f
+  rows-have : (d : ℕ) (owner : Bytes) (up : ℕ) (f : Forest Row)
       → any (instanceRow i) (flatten d (indexed form owner f)) ≡ any (λ (l : Line). elementNamed n (l .row)) (lines up f)
-  rows-have d owner up bare e = refl
-  rows-have d owner up (tree r b t) (x, y, z) =
-      ap₂ (λ (u v : Bool). u || v) (row-same owner r (heads b) x)
+  rows-have d owner up bare = refl
+  rows-have d owner up (tree r b t) =
+      ap₂ (λ (u v : Bool). u || v) (element-test form once i h owner r)
       (any-append (instanceRow i) (flatten (suc d) (indexed form (r .name) b)) (flatten d (indexed form owner t))
-      ∙ ap₂ (λ (u v : Bool). u || v) (rows-have (suc d) (r .name) (r .serial) b y) (rows-have d owner up t z)
+      ∙ ap₂ (λ (u v : Bool). u || v) (rows-have (suc d) (r .name) (r .serial) b) (rows-have d owner up t)
       ∙ sym (any-append (λ (l : Line). elementNamed n (l .row)) (lines (r .serial) b) (lines up t)))
 
 pub instance-is : (bs : Bytes) → Whole bs → (o : ℕ) → o < length (formIn bs)
     → any (instanceRow o) (readMany readRow (rowSize (widthOf bs)) (rowCount bs) (treeRowsIn bs)) ≡ instanceExists (nameAtIndex o (formIn bs)) (storeIn bs)
 instance-is bs w o l =
     ap (any (instanceRow o)) (sym (from-all readRow (rowSize (widthOf bs)) (treeRowsIn bs) (rowCount bs) 0) ∙ w .rows)
-    ∙ rows-have (storeIn bs .version) (formIn bs) (w .good .form .names) o l 0 [] 0 (docsIn bs) (w .good .docs .rows)
+    ∙ rows-have (formIn bs) (w .good .form .names) o l 0 [] 0 (docsIn bs)
 
 -- ---- the loop over the rows
 pub instance-row : (o : ℕ) (at : Bytes) {row : Bytes} {index : ℕ} {sort : ℕ} → row ≡ at → sort ≡ readRow row .row .sort → index ≡ readRow row .row .index

@@ -6,5 +6,6 @@ pub mod ParticleLaws
 pub mod EnteringLaws
 pub mod FindLaws
 pub mod PositionLaws
+pub mod SpreadLaws
 pub mod WrittenLaws
 pub mod NamedPlaces

@@ -14,7 +14,7 @@ ghost use Rattle.model_writer.specs.Writing.{editOf};
 ghost use Rattle.store_writer.specs.Writing.{limited};
 ghost use Rattle.planned_rows.specs.Planned.{plannedIn};
 ghost use Rattle.planned_rows.specs.Walking.{Sized};
-ghost use Rattle.store_laws.proofs.FormLaws.{bareForm};
+ghost use Rattle.store_laws.specs.Forms.{bareForm};
 ghost use Rattle.model_form.specs.Editing.{formEdited, Edits};
 
 // Whether the form after an edit keeps within the ceilings, where it has p particles.

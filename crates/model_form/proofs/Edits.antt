@@ -32,8 +32,8 @@ use Rattle.model_writer.specs.Writing as writing
 use Rattle.model_writer.proofs.FormAfter.{reformed}
 use Rattle.model_writer.proofs.EditedStore.{edit-flat, edit-length, edit-body}
 use Rattle.store_laws.specs.Stores.{storeIn}
+use Rattle.store_laws.specs.Forms.{bareForm}
 use Rattle.store_laws.proofs.StoreLaws.{holds}
-use Rattle.store_laws.proofs.FormLaws.{bareForm}
 use Rattle.store_laws.proofs.FormBytesLaws.{Few, few-of, few-particles}
 use Rattle.store_laws.proofs.Encoded.{encoded}
 use Rattle.model_places.specs.Placing.{indexOfName, modelIn, partIn}

@@ -36,8 +36,8 @@ use Rattle.model_writer.specs.Writing.{EditPart, depthsWithin}
 use Rattle.model_writer.specs.Writing as writing
 use Rattle.model_writer.specs.declared.Edit.{Edit as EditCode}
 use Rattle.model_writer.proofs.CountedBytes.{counted-bytes}
-use Rattle.store_laws.specs.Forms.{formBytes}
-use Rattle.store_laws.proofs.FormLaws.{bareForm, FormOf, forms-of}
+use Rattle.store_laws.specs.Forms.{formBytes, bareForm}
+use Rattle.store_laws.proofs.FormLaws.{FormOf, forms-of}
 use Rattle.store_laws.proofs.FormBytesLaws.{Few, few-of, few-particles}
 use Rattle.store_laws.proofs.FormBytesLaws as bytes
 use Rattle.plans.proofs.FormsAfter.{spliced-form, counted-length}

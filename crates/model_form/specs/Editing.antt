@@ -18,7 +18,7 @@ use Rattle.lookup.specs.Bodies.{bodiesOf}
 use Rattle.model_writer.specs.Spliced.{splicedForm}
 use Rattle.model_writer.specs.PartAfter.{partAfter, lengthAfter}
 use Rattle.model_writer.specs.Writing.{EditPart}
-use Rattle.store_laws.proofs.FormLaws.{bareForm}
+use Rattle.store_laws.specs.Forms.{bareForm}
 use Rattle.model_places.specs.Placing.{partIn}
 
 -- where the particles of definition o start, and how many it has

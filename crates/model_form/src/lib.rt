@@ -11,8 +11,7 @@ ghost use Rattle.codec.specs.Laid.{Laid};
 ghost use Rattle.layout.specs.Bodies.{widthOf, mostForm};
 ghost use Rattle.model_writer.specs.PartAfter.{lengthAfter};
 ghost use Rattle.model_writer.specs.Writing.{editOf};
-ghost use Rattle.store_laws.specs.Forms.{formBytes};
-ghost use Rattle.store_laws.proofs.FormLaws.{bareForm};
+ghost use Rattle.store_laws.specs.Forms.{formBytes, bareForm};
 ghost use Rattle.model_form.specs.Editing.{formEdited, modelLength, Edits};
 
 // How many particles a model of n has after an edit.

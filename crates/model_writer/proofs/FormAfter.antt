@@ -16,18 +16,14 @@ use Rattle.rules.specs.Preorder.{flatten}
 use Rattle.rules.specs.Layout.{FlatDefinition, FlatAttribute, indexOf, indexIn, attributeIndex, howMany, particles, contentParticles, flatDefinition}
 use Rattle.rules.specs.Layout.{allParticles, ownAttributes, allAttributes, indexed, flat, quantifierCode, groupCode, kindCode, rowCode}
 use Rattle.rules.specs.Change.{definitionAt, update, inContent, inModel, editFound, editAt, editModel}
+use Rattle.change_laws.proofs.FormLaws.{index-kept}
 use Rattle.model.specs.Places.{Particles}
 use Rattle.model.specs.Positions.{spread}
 use Rattle.model.proofs.PositionLaws.{spread-named}
 use Rattle.model_writer.specs.Spliced.{startOf, countOf, counted, spliced, splicedForm}
 
--- ---- names, attributes and their indices, whatever becomes of the model
+-- ---- attributes and their indices, whatever becomes of the model
 module _ (u : Members Bytes → Members Bytes) where
-  pub index-kept : (o : ℕ) (form : Form) (n : Bytes) → indexOf n (update o (inModel u) form) ≡ indexOf n form
-  index-kept o [] n = refl
-  index-kept zero (d ∷ ds) n = refl
-  index-kept (suc o) (d ∷ ds) n = ap (λ (i : ℕ). elim (same n (d .name)) as (λ z. ℕ) [ true ↦ 0 | false ↦ suc i ]) (index-kept o ds n)
-
   pub attribute-index-kept : (o : ℕ) (form : Form) (owner n : Bytes) → attributeIndex owner n (update o (inModel u) form) ≡ attributeIndex owner n form
   attribute-index-kept o [] owner n = refl
   attribute-index-kept zero (d ∷ ds) owner n = refl
@@ -52,11 +48,11 @@ module _ (form more : Form) (alike : (n : Bytes) → indexOf n form ≡ indexOf 
   content-alike pcdata = refl
   content-alike (complex ms) = ap (flatten 0) (particles-alike ms)
 
-  all-alike : (ds : Form) → allParticles form ds ≡ allParticles more ds
+  pub all-alike : (ds : Form) → allParticles form ds ≡ allParticles more ds
   all-alike [] = refl
   all-alike (d ∷ ds) = ap₂ (λ (u v : Particles). u ++ v) (content-alike (d .content)) (all-alike ds)
 
-  definitions-alike : (ds : Form) → map (flatDefinition form) ds ≡ map (flatDefinition more) ds
+  pub definitions-alike : (ds : Form) → map (flatDefinition form) ds ≡ map (flatDefinition more) ds
   definitions-alike [] = refl
   definitions-alike (d ∷ ds) =
       λ i. record { name = d .name; kind = kindCode (d .content); particles = length (content-alike (d .content) i) } ∷ definitions-alike ds i
@@ -75,7 +71,7 @@ module _ (form more : Form) (alike : (n : Bytes) → indexOf n form ≡ indexOf 
       index text = refl
 
 pub rows-kept : (u : Members Bytes → Members Bytes) (o : ℕ) (form : Form) (owner : Bytes) (f : Forest Row) → indexed (update o (inModel u) form) owner f ≡ indexed form owner f
-rows-kept u o form owner f = rows-alike (update o (inModel u) form) form (index-kept u o form) (attribute-index-kept u o form) owner f
+rows-kept u o form owner f = rows-alike (update o (inModel u) form) form (index-kept (inModel u) (λ d. refl) o form) (attribute-index-kept u o form) owner f
 
 -- ---- one model changed: the particles of the others stay
 module _ (form : Form) (u : Members Bytes → Members Bytes) where
@@ -123,7 +119,7 @@ form-after s o p e f l c at =
     let new : Form = editModel o p e form in
     let ms : Members Bytes = members (definitionAt o form) in
     let named : Particles = spread 0 (rename (λ n. indexOf n form) (modelAfter e f)) in
-    let alike : (n : Bytes) → indexOf n new ≡ indexOf n form = index-kept (editAt e p) o form in
+    let alike : (n : Bytes) → indexOf n new ≡ indexOf n form = index-kept (inModel (editAt e p)) (λ d. refl) o form in
     let become : flatten 0 (particles form (editAt e p ms)) ≡ named = ap (λ (x : Option (Found Bytes)). flatten 0 (particles form (editFound e ms x))) at ∙ spread-named form 0 (modelAfter e f) in
     let ds : map (flatDefinition new) new ≡ counted o (length named) (map (flatDefinition form) form) =
     definitions-alike new form alike new ∙ definitions-counted form (editAt e p) o form ms c ∙ ap (λ (x : Particles). counted o (length x) (map (flatDefinition form) form)) become in

@@ -4,13 +4,14 @@ use native.Mathlib.Omega.{arith}
 use mathlib.Core.Path.{_≡_, refl, sym, ap, ap₂, _∙_, subst}
 use mathlib.Core.List.{[], _∷_, _++_}
 use lib.ListN.{length, take, drop, getD, length-take, length-drop}
-use lib.Seq.{take-nil, drop-nil, drop-cons}
+use lib.Seq.{drop-cons}
 use Rattle.rules.specs.Bytes.{Bytes}
 use Rattle.rules.specs.Preorder.{Deep}
 use Rattle.rules.specs.Layout.{FlatParticle, particleBytes, each, particleSize}
 use Rattle.rules.specs.Decode.{readParticle}
 use Rattle.rules.specs.Edit.{Edit}
 use Rattle.rules.proofs.BooleanLaws.{Every, every-left, every-right}
+use Rattle.rules.proofs.LayoutLaws as layout
 use Rattle.rules.proofs.LayoutLaws.{SmallParticle, length-each, length-particle}
 use Rattle.codec.specs.Laid.{Laid}
 use Rattle.model.specs.declared.place.Holder.{Holder}
@@ -40,18 +41,11 @@ pub each-append : (xs ys : Particles) → each particleBytes (xs ++ ys) ≡ each
 each-append [] ys = refl
 each-append (x ∷ xs) ys = ap (λ (s : Bytes). particleBytes x ++ s) (each-append xs ys)
 
-four-more : (n : ℕ) → particleSize * suc n ≡ suc (suc (suc (suc (particleSize * n))))
-four-more n = omega arith
-
 pub each-take : (n : ℕ) (xs : Particles) → take (particleSize * n) (each particleBytes xs) ≡ each particleBytes (take n xs)
-each-take zero xs = refl
-each-take (suc n) [] = take-nil (particleSize * suc n)
-each-take (suc n) (x ∷ xs) = ap (λ (k : ℕ). take k (each particleBytes (x ∷ xs))) (four-more n) ∙ ap (λ (s : Bytes). particleBytes x ++ s) (each-take n xs)
+each-take n xs = layout.each-take particleBytes particleSize length-particle n xs
 
 pub each-drop : (n : ℕ) (xs : Particles) → drop (particleSize * n) (each particleBytes xs) ≡ each particleBytes (drop n xs)
-each-drop zero xs = refl
-each-drop (suc n) [] = drop-nil (particleSize * suc n)
-each-drop (suc n) (x ∷ xs) = ap (λ (k : ℕ). drop k (each particleBytes (x ∷ xs))) (four-more n) ∙ each-drop n xs
+each-drop n xs = layout.each-drop particleBytes particleSize length-particle n xs
 
 pub length-bytes : (xs : Particles) → length (each particleBytes xs) ≡ particleSize * length xs
 length-bytes xs = length-each particleBytes particleSize length-particle xs

@@ -3,7 +3,7 @@ use Prim.Native.Nat.{ℕ, suc, _+_, _*_, _<_, _≤_}
 use native.Mathlib.Omega.{arith}
 use mathlib.Core.Path.{_≡_, refl, sym, ap, ap₂, _∙_, subst}
 use mathlib.Core.Bool.{Bool, true, false, _||_}
-use mathlib.Core.List.{List, [], _∷_, _++_, map, append-assoc, append-nil, List·Memᴰ, List·Memᴰ·head, List·Memᴰ·tail, Memᴰ·append-left, Memᴰ·append-right}
+use mathlib.Core.List.{List, [], _∷_, _++_, map, append-assoc, append-nil, List·Memᴰ, Memᴰ·append-left}
 use lib.Dec.{eqb}
 use lib.ListN.{length, take, drop, getD, length-append}
 use lib.Seq.{take-at, drop-drop}
@@ -15,7 +15,6 @@ use Rattle.rules.specs.Store.{Form}
 use Rattle.rules.specs.Preorder.{Deep}
 use Rattle.rules.specs.Layout.{particleSize, FlatParticle, indexOf, howMany}
 use Rattle.rules.specs.Decode.{definitionCount}
-use Rattle.rules.specs.WellFormed.{known}
 use Rattle.rules.specs.Place.{Context, beforePlace, afterPlace}
 use Rattle.rules.specs.Change.{definitionAt, nameAtIndex}
 use Rattle.rules.specs.Passing.{passes}
@@ -44,13 +43,13 @@ use Rattle.place_marks.proofs.ReadLaws.{among, markBy, marks-read, mark
 use Rattle.place_marks.proofs.ElementLaws.{elements-read, elements-spread, elements-leading}
 use Rattle.place_marks.proofs.SpanLaws.{span-group}
 
--- ---- known names by their index
-among-member : (form : Form) → Distinct (namesOf form) → (i : ℕ) → i < length form → (ns : List Bytes) → ((n : Bytes) → List·Memᴰ n ns → known form n ≡ true)
+-- ---- names by their index
+among-member : (form : Form) → Distinct (namesOf form) → (i : ℕ) → i < length form → (ns : List Bytes)
     → among i (map (λ n. indexOf n form) ns) ≡ member bytes (nameAtIndex i form) ns
 unfolding member
-among-member form once i h [] k = refl
-among-member form once i h (n ∷ ns) k =
-    ap₂ (λ (a b : Bool). a || b) (index-same form once i h n (k n (List·Memᴰ·head refl))) (among-member form once i h ns (λ m j. k m (List·Memᴰ·tail j)))
+among-member form once i h [] = refl
+among-member form once i h (n ∷ ns) =
+    ap₂ (λ (a b : Bool). a || b) (index-same form once i h n) (among-member form once i h ns)
     ∙ by (same (nameAtIndex i form) n)
   where
     by : (b : Bool) → (b || member bytes (nameAtIndex i form) ns) ≡ elim b [ true ↦ true | false ↦ member bytes (nameAtIndex i form) ns ]
@@ -89,15 +88,12 @@ module _ {bs : Bytes} {o : ℕ} {i : Bool} {place : List ℕ} {h : Holder} {p : 
         ∙ ap (λ (l : Particles). take (count one) l) e ∙ take-at (spread d one) ys (count one) (length-spread d one))
         ∙ elements-spread d one
 
-  -- ---- the names of the model: those of definitions, none twice
+  -- ---- the names of the model: none twice
   held : Whole bs
   held = whole bs good
 
   owner : o < length (formIn bs)
   owner = omega (arith, held .agrees .size)
-
-  name-known : (n : Bytes) → List·Memᴰ n (ns ++ (names (x .found .picked) ++ afterPlace (x .found .context))) → known (formIn bs) n ≡ true
-  name-known n m = held .good .form .definitions (definitionAt o (formIn bs)) (definition-in (formIn bs) o owner) .inRange n (subst (λ (l : List Bytes). List·Memᴰ n l) (sym model-names) m)
 
   apart : (n : Bytes) → List·Memᴰ n ns → List·Memᴰ n (names (x .found .picked)) → ⊥
   apart n a b =
@@ -129,13 +125,12 @@ module _ {bs : Bytes} {o : ℕ} {i : Bool} {place : List ℕ} {h : Holder} {p : 
       early-is : (i : ℕ) → i < length (formIn bs) → early i ≡ member bytes (nameAtIndex i (formIn bs)) ns
       early-is i l =
           ap (among i) before-elements ∙ among-member (formIn bs) (held .good .form .names) i l ns
-          (λ m j. name-known m (Memᴰ·append-left (names (x .found .picked) ++ afterPlace (x .found .context)) j))
 
       late-is : (i : ℕ) → i < length (formIn bs) → late i ≡ member bytes (nameAtIndex i (formIn bs)) at
       late-is i l =
           ap (λ (k : ℕ). among i (elementsOf (take (particleSize * k) (drop (particleSize * p) (partIn bs o))))) size
           ∙ ap (among i) (at-elements d (rename (indexOfName bs) one) ys next ∙ names-rename (indexOfName bs) one ∙ ap (map (indexOfName bs)) (sym are))
-          ∙ among-member (formIn bs) (held .good .form .names) i l at (λ m j. name-known m (Memᴰ·append-right ns (Memᴰ·append-left (afterPlace (x .found .context)) (inside m j))))
+          ∙ among-member (formIn bs) (held .good .form .names) i l at
 
       never : (i : ℕ) → i < length (formIn bs) → early i ≡ true → late i ≡ true → ⊥
       never i l a b =

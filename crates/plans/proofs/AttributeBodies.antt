@@ -9,41 +9,22 @@ use lib.ListN.{length, length-append, take, drop}
 use lib.Seq.{take-at, drop-at, getD-at}
 use borrow.Author.Tests.{le-leb, lt-leb}
 use Rattle.rules.specs.Bytes.{Bytes, same, bytes}
-use Rattle.rules.specs.Model.{Members, done, el, group}
-use Rattle.rules.specs.Store.{Content, empty, pcdata, complex, Attribute, Definition, Form, Forest, tree, bare}
-use Rattle.rules.specs.Preorder.{Deep, flatten}
-use Rattle.rules.specs.Layout.{FlatDefinition, FlatParticle, FlatAttribute, indexOf, indexIn, sortCode, quantifierCode, groupCode, kindCode, howMany, particles}
+use Rattle.rules.specs.Store.{Attribute, Definition, Form}
+use Rattle.rules.specs.Preorder.{Deep}
+use Rattle.rules.specs.Layout.{FlatDefinition, FlatParticle, FlatAttribute, indexIn, sortCode}
 use Rattle.rules.specs.Layout.{contentParticles, flatDefinition, allParticles, ownAttributes, allAttributes}
 use Rattle.rules.specs.WellFormed.{attributeName}
 use Rattle.rules.specs.Change.{definitionAt, update, withAttributes, lacking}
 use Rattle.rules.proofs.DecodeLaws.{length-own}
+use Rattle.change_laws.proofs.FormLaws.{index-kept}
+use Rattle.model_writer.proofs.FormAfter.{all-alike, definitions-alike}
 use Rattle.store_check.specs.Reading.{noAttribute}
 use Rattle.store_check.proofs.AttributeBlocks.{offset}
 use Rattle.plans.specs.AttributeCalls.{attributesTo, ownerAt}
 use Rattle.plans.proofs.AttributeIndices.{index-here, index-there}
-use Rattle.plans.proofs.AttributeShifts.{index-kept, offset-first, offset-next}
+use Rattle.plans.proofs.AttributeShifts.{offset-first, offset-next}
 
 -- ---- definitions and particles
-module _ (form new : Form) (alike : (n : Bytes) → indexOf n new ≡ indexOf n form) where
-  particles-alike : (ms : Members Bytes) → particles new ms ≡ particles form ms
-  particles-alike done = refl
-  particles-alike (el q n rest) = ap₂ (λ (i : ℕ) (t : Forest FlatParticle). tree (record { sort = 0; quantifier = quantifierCode q; index = i }) bare t) (alike n) (particles-alike rest)
-  particles-alike (group q k ms rest) =
-      ap₂ (λ (b t : Forest FlatParticle). tree (record { sort = groupCode k; quantifier = quantifierCode q; index = howMany ms }) b t) (particles-alike ms) (particles-alike rest)
-
-  content-alike : (c : Content) → contentParticles new c ≡ contentParticles form c
-  content-alike empty = refl
-  content-alike pcdata = refl
-  content-alike (complex ms) = ap (flatten 0) (particles-alike ms)
-
-  definitions-alike : (ds : Form) → map (flatDefinition new) ds ≡ map (flatDefinition form) ds
-  definitions-alike [] = refl
-  definitions-alike (d ∷ ds) = λ i. record { name = d .name; kind = kindCode (d .content); particles = length (content-alike (d .content) i) } ∷ definitions-alike ds i
-
-  all-alike : (ds : Form) → allParticles new ds ≡ allParticles form ds
-  all-alike [] = refl
-  all-alike (d ∷ ds) = λ i. content-alike (d .content) i ++ all-alike ds i
-
 module _ (e : List Attribute → List Attribute) where
   definitions-update : (new : Form) (o : ℕ) (ds : Form) → map (flatDefinition new) (update o (withAttributes e) ds) ≡ map (flatDefinition new) ds
   definitions-update new o [] = refl
@@ -56,10 +37,14 @@ module _ (e : List Attribute → List Attribute) where
   all-update new (suc o) (d ∷ ds) = ap (λ (z : List (Deep FlatParticle)). contentParticles new (d .content) ++ z) (all-update new o ds)
 
   pub definitions-kept : (o : ℕ) (form : Form) → map (flatDefinition (update o (withAttributes e) form)) (update o (withAttributes e) form) ≡ map (flatDefinition form) form
-  definitions-kept o form = definitions-update (update o (withAttributes e) form) o form ∙ definitions-alike form (update o (withAttributes e) form) (index-kept e o form) form
+  definitions-kept o form =
+      definitions-update (update o (withAttributes e) form) o form
+      ∙ definitions-alike (update o (withAttributes e) form) form (index-kept (withAttributes e) (λ d. refl) o form) form
 
   pub particles-kept : (o : ℕ) (form : Form) → allParticles (update o (withAttributes e) form) (update o (withAttributes e) form) ≡ allParticles form form
-  particles-kept o form = all-update (update o (withAttributes e) form) o form ∙ all-alike form (update o (withAttributes e) form) (index-kept e o form) form
+  particles-kept o form =
+      all-update (update o (withAttributes e) form) o form
+      ∙ all-alike (update o (withAttributes e) form) form (index-kept (withAttributes e) (λ d. refl) o form) form
 
 -- ---- the attributes of definition o, which has number i, among all of definitions numbered from k on
 record Among (o k i : ℕ) (form : Form) : Type 0 where

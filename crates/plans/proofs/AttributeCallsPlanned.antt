@@ -30,7 +30,8 @@ use Rattle.rules.proofs.TestLaws.{member-test}
 use Rattle.rules.proofs.PassingLaws.{good-is}
 use Rattle.change_laws.proofs.Conditions.{not-past, none-holds}
 use Rattle.change_laws.proofs.Rowwise.{Standing}
-use Rattle.change_laws.proofs.FormLaws.{attribute-owned, owner-at, owner-below}
+use Rattle.change_laws.proofs.FormLaws.{attribute-owned, owner-at, owner-below, index-kept}
+use Rattle.store_check.proofs.IndexLaws.{element-test}
 use Rattle.store_check.proofs.AttributeReads.{sort-back}
 use Rattle.store_check.proofs.AttributeRows.{rowWritten}
 use Rattle.store_check.proofs.AttributeBlocks.{offset}
@@ -50,12 +51,12 @@ use Rattle.plans.proofs.TreePlans.{documents-kept}
 use Rattle.plans.proofs.FormPlanned.{flat-planned-in}
 use Rattle.plans.proofs.FollowingLaws.{index-moved, value-same, kept-all}
 use Rattle.plans.proofs.AttributeIndices.{own-index, take-test}
-use Rattle.plans.proofs.AttributeShifts.{index-kept, index-new, offset-next, spot-own, own-at, own-lower, added-shift, dropped-shift}
+use Rattle.plans.proofs.AttributeShifts.{index-new, offset-next, spot-own, own-at, own-lower, added-shift, dropped-shift}
 use Rattle.plans.proofs.AttributeBodies.{definitions-kept, particles-kept, attributes-added, attributes-dropped, owner-read, attributes-to}
 use Rattle.plans.proofs.OwnedRows.{Owns, each-owned}
 use Rattle.plans.proofs.DocumentPlans.{given}
 use Rattle.plans.proofs.CallsPlanned.{owned-there}
-use Rattle.plans.proofs.Instances.{element-test, apart-instances}
+use Rattle.plans.proofs.Instances.{apart-instances}
 
 pub and-swap : (a b : Bool) → (a && b) ≡ (b && a)
 and-swap true true = refl
@@ -117,7 +118,7 @@ module _ (s : Store) (g : good s ≡ true) where
           takes = and-false sel;
           later = λ e f. later u r own (same-eq name (u .name) (and-split (isElement (u .sort)) (same name (u .name)) (sym x ∙ e) .1));
           index =
-              index-moved (s .form) new p (u .name) r refl (index-kept more o (s .form) (r .name))
+              index-moved (s .form) new p (u .name) r refl (index-kept (withAttributes more) (λ d. refl) o (s .form) (r .name))
               (λ e. let (j, (d, f, m)) = own e in added-shift o (s .form) once l (u .name) d f (r .name) m (newAttribute n k v));
           value = value-same r v [] (given s g r b i);
           fills = ap (λ (c : Bool). c && mustBePresent (s .version) (sortOf k)) (element-test (s .form) once o l (u .name) r) ∙ and-swap (elementNamed name r) (mustBePresent (s .version) (sortOf k));
@@ -227,7 +228,7 @@ module _ (s : Store) (g : good s ≡ true) where
                   takes = test;
                   later = λ z y. refl;
                   index =
-                      index-moved (s .form) left dropping (u .name) r refl (index-kept (lacking lost) i (s .form) (r .name))
+                      index-moved (s .form) left dropping (u .name) r refl (index-kept (withAttributes (lacking lost)) (λ d. refl) i (s .form) (r .name))
                       (λ z. let (y, (d, f, m)) = own z in dropped-shift i (s .form) once below (u .name) d f (r .name) m lost a there at-index (stays u r e y z));
                   value = value-same r v [] (given s g r b j);
                   fills = and-false (matches (Elements i) (rowWritten (s .form) (u .name) r));

@@ -11,7 +11,7 @@ use borrow.Author.Tests.{le-leb, lt-leb}
 use Rattle.rules.specs.Bytes.{Bytes, same, bytes, same-eq, same-refl}
 use Rattle.rules.specs.Model.{Distinct}
 use Rattle.rules.specs.Store.{Attribute, Definition, Form}
-use Rattle.rules.specs.Layout.{indexOf, indexIn, attributeIndex}
+use Rattle.rules.specs.Layout.{indexIn, attributeIndex}
 use Rattle.rules.specs.WellFormed.{definitionName, attributeName, lookup}
 use Rattle.rules.specs.Change.{definitionAt, nameAtIndex, update, withAttributes, lacking}
 use Rattle.rules.proofs.Apart.{differs}
@@ -80,12 +80,6 @@ lacking-index n x (a ∷ table) m f = by (same n (a .name)) refl (same x (a .nam
         (h (⊎-elim (λ e. absurd (false≢true (sym q ∙ bytes .same← n (a .name) e))) (λ i. i) (List·Memᴰ·cases-cons m)))
 
 -- ---- in the whole table
--- names of definitions keep their index
-pub index-kept : (e : List Attribute → List Attribute) (o : ℕ) (form : Form) (n : Bytes) → indexOf n (update o (withAttributes e) form) ≡ indexOf n form
-index-kept e o [] n = refl
-index-kept e zero (d ∷ form) n = refl
-index-kept e (suc o) (d ∷ form) n = ap (λ (i : ℕ). elim (same n (d .name)) as (λ z. ℕ) [ true ↦ 0 | false ↦ suc i ]) (index-kept e o form n)
-
 pub offset-first : (form : Form) → offset 0 form ≡ 0
 offset-first [] = refl
 offset-first (d ∷ form) = refl

@@ -15,9 +15,9 @@ use Rattle.rules.proofs.LayoutLaws.{GoodFlatDefinition, GoodFlatAttribute, Good
 use Rattle.rules.proofs.DecodeLaws.{name-width, value-width}
 use Rattle.model.specs.Places.{Particles}
 use Rattle.model_writer.specs.Spliced.{startOf, countOf, counted, spliced, splicedForm}
-use Rattle.store_laws.specs.Forms.{formBytes}
+use Rattle.store_laws.specs.Forms.{formBytes, bareForm}
 use Rattle.store_laws.proofs.FormBytesLaws.{Few, few-of, few-particles, few-attributes}
-use Rattle.store_laws.proofs.FormLaws.{bareForm, FormOf}
+use Rattle.store_laws.proofs.FormLaws.{FormOf}
 use Rattle.plans.specs.AttributeCalls.{attributesReplaced, attributeAdded, attributeDropped}
 
 -- ---- 3 to 8: definition o with other particles

@@ -1,75 +1,31 @@
 -- Where the members of a group begin among the particles, and that they are read from there.
-use Prim.Native.Nat.{ℕ, zero, suc, _+_, _≤_, _<_}
+use Prim.Native.Nat.{ℕ, zero, suc, _+_, _<_}
 use native.Mathlib.Omega.{arith}
-use mathlib.Core.Path.{_≡_, refl, sym, ap, ap₂, _∙_}
+use mathlib.Core.Path.{_≡_, refl, sym, ap, _∙_}
 use mathlib.Core.Option.{some}
 use mathlib.Core.List.{List, [], _∷_, _++_, map, append-assoc}
 use lib.ListN.{length, drop}
 use lib.Seq.{drop-drop, drop-append-add}
 use Rattle.rules.specs.declared.Quantifier.{Quantifier}
 use Rattle.rules.specs.declared.GroupKind.{GroupKind}
-use Rattle.rules.specs.declared.GroupKind.the-variants.{Sequence, Choice}
 use Rattle.rules.specs.Bytes.{Bytes}
-use Rattle.rules.specs.Model.{Members, done, el, group, rename}
+use Rattle.rules.specs.Model.{Members, group, rename}
 use Rattle.rules.specs.Place.{Context, here, past, over, into, plug, renameAround}
 use Rattle.rules.specs.Edit.{Edit, placeOf}
-use Rattle.rules.specs.Store.{Content, empty, pcdata, complex, Definition, Form, bare, Store, members}
+use Rattle.rules.specs.Store.{Content, empty, pcdata, complex, Definition, Form, Store, members}
 use Rattle.rules.specs.Preorder.{build}
-use Rattle.rules.specs.Layout.{groupCode, howMany, indexOf, contentParticles, flatDefinition, allParticles, flat}
+use Rattle.rules.specs.Layout.{indexOf, contentParticles, flatDefinition, allParticles, flat}
 use Rattle.rules.specs.Change.{definitionAt}
 use Rattle.rules.proofs.RenamingPlaces.{plug-rename}
 use Rattle.change_laws.proofs.ModelAfter.{place-right}
 use Rattle.change_laws.proofs.EditConditions.{complex-content, picked-complex}
-use Rattle.model.specs.Members.{indexMember, indexMembers}
+use Rattle.model.specs.Members.{indexMembers}
 use Rattle.model.specs.Places.{Particles}
-use Rattle.model.specs.Positions.{elementParticle, groupParticle, spread, offset, leading, trailing, level}
+use Rattle.model.specs.Positions.{spread, offset, leading, trailing, level}
 use Rattle.model.proofs.PositionLaws.{spread-named, spread-plug, length-leading}
+use Rattle.model.proofs.SpreadLaws.{Shallow, shallow-spread, spread-read}
 use Rattle.model_writer.specs.Spliced.{startOf}
 use Rattle.planned_rows.specs.Planned.{membersAt}
-use Rattle.rules.proofs.PreorderLaws.{build-same, build-less, build-more}
-use Rattle.rules.proofs.DecodeLaws.{quantifier-code}
-
--- ---- a particle of depth d, a deeper one, one less deep
--- no particle comes next, or one less deep than d
-pub record Shallow (d : ℕ) (rest : Particles) : Type 0 where
-  pub none : (k : ℕ) → d ≤ k → build rest k ≡ bare
-
-shallow-spread : (d : ℕ) (ms : Members ℕ) (rest : Particles) → Shallow (suc d) rest → Shallow (suc d) (spread d ms ++ rest)
-shallow-spread d done rest h = h
-shallow-spread d (el q i ms) rest h = record { none = λ k l. build-more (elementParticle d q i) (spread d ms ++ rest) k (omega arith) }
-shallow-spread d (group q j ms t) rest h = record { none = λ k l. build-more (groupParticle d q j (howMany ms)) ((spread (suc d) ms ++ spread d t) ++ rest) k (omega arith) }
-
-build-above : (d k : ℕ) (ms : Members ℕ) (rest : Particles) → k < d → build (spread d ms ++ rest) k ≡ build rest k
-build-above d k done rest h = refl
-build-above d k (el q i ms) rest h = build-less (elementParticle d q i) (spread d ms ++ rest) k h ∙ build-above d k ms rest h
-build-above d k (group q j ms t) rest h =
-    build-less (groupParticle d q j (howMany ms)) ((spread (suc d) ms ++ spread d t) ++ rest) k h
-    ∙ ap (λ (l : Particles). build l k) (append-assoc (spread (suc d) ms) (spread d t) rest)
-    ∙ build-above (suc d) k ms (spread d t ++ rest) (omega arith)
-    ∙ build-above d k t rest h
-
--- members are read back
-members-read : (d : ℕ) (ms : Members ℕ) (rest : Particles) → Shallow d rest → indexMembers (build (spread d ms ++ rest) d) ≡ ms
-members-read d done rest h = ap indexMembers (h .none d (omega arith))
-members-read d (el q i ms) rest h =
-    ap indexMembers (build-same (elementParticle d q i) (spread d ms ++ rest) d refl)
-    ∙ ap₂ (λ (r : Quantifier) (t : Members ℕ). el r i t) (quantifier-code q) (members-read d ms rest h)
-members-read d (group q j ms t) rest h =
-    ap indexMembers (build-same (groupParticle d q j (howMany ms)) ((spread (suc d) ms ++ spread d t) ++ rest) d refl)
-    ∙ ap₂ (λ (u v : Members ℕ). indexMember (groupParticle d q j (howMany ms) .row) (groupCode j) u v)
-    (inner ∙ members-read (suc d) ms (spread d t ++ rest) (shallow-spread d t rest (record { none = λ k l. h .none k (omega arith) })))
-    (others ∙ members-read d t rest h)
-    ∙ by j
-  where
-    inner : indexMembers (build ((spread (suc d) ms ++ spread d t) ++ rest) (suc d)) ≡ indexMembers (build (spread (suc d) ms ++ (spread d t ++ rest)) (suc d))
-    inner = ap (λ (l : Particles). indexMembers (build l (suc d))) (append-assoc (spread (suc d) ms) (spread d t) rest)
-
-    others : indexMembers (build ((spread (suc d) ms ++ spread d t) ++ rest) d) ≡ indexMembers (build (spread d t ++ rest) d)
-    others = ap (λ (l : Particles). indexMembers (build l d)) (append-assoc (spread (suc d) ms) (spread d t) rest) ∙ ap indexMembers (build-above (suc d) d ms (spread d t ++ rest) (omega arith))
-
-    by : (k : GroupKind) → indexMember (groupParticle d q k (howMany ms) .row) (groupCode k) ms t ≡ group q k ms t
-    by Sequence = ap (λ (r : Quantifier). group r Sequence ms t) (quantifier-code q)
-    by Choice = ap (λ (r : Quantifier). group r Choice ms t) (quantifier-code q)
 
 -- after a place nothing deeper than it comes
 shallow-trailing : (d : ℕ) (c : Context ℕ) (rest : Particles) → Shallow (suc d) rest → Shallow (suc (level d c)) (trailing d c ++ rest)
@@ -87,7 +43,7 @@ pub group-begins : (start : ℕ) (ps others : Particles) (c : Context ℕ) (q : 
     → indexMembers (build (drop (start + (offset c + 1)) ps) (suc (level 0 c))) ≡ ms
 group-begins start ps others c q j ms rest e h =
     ap (λ (l : Particles). indexMembers (build l (suc (level 0 c)))) seen
-    ∙ members-read (suc (level 0 c)) ms (spread (level 0 c) rest ++ (trailing 0 c ++ others)) (shallow-spread (level 0 c) rest (trailing 0 c ++ others) (shallow-trailing 0 c others h))
+    ∙ spread-read (suc (level 0 c)) ms (spread (level 0 c) rest ++ (trailing 0 c ++ others)) (shallow-spread (level 0 c) rest (trailing 0 c ++ others) (shallow-trailing 0 c others h))
   where
     t : Members ℕ
     t = group q j ms rest

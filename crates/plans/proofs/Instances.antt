@@ -1,20 +1,16 @@
 -- Instances never nest: below an element stand only elements of
 -- definitions that its own reaches, and none reaches itself.
-use Prim.Native.Nat.{ℕ, suc, _<_}
-use native.Mathlib.Omega.{arith}
-use mathlib.Core.Path.{_≡_, refl, sym, ap, _∙_, subst}
-use mathlib.Core.Bool.{Bool, true, false, _&&_, false≢true}
-use mathlib.Core.List.{List, [], _∷_, map, List·Memᴰ, List·Memᴰ·head, List·Memᴰ·tail, List·Memᴰ·not-nil}
-use lib.Dec.{eqb}
+use Prim.Native.Nat.{ℕ, _<_}
+use mathlib.Core.Path.{_≡_, refl, sym, _∙_, subst}
+use mathlib.Core.Bool.{Bool, true, false, _&&_}
+use mathlib.Core.List.{List, [], map, List·Memᴰ, List·Memᴰ·head, List·Memᴰ·tail, List·Memᴰ·not-nil}
 use lib.ListN.{length}
-use borrow.Author.Tests.{eq-eqb, ne-eqb}
 use Rattle.rules.specs.Bytes.{Bytes, same, bytes, same-eq}
 use Rattle.rules.specs.Model.{Distinct}
 use Rattle.rules.specs.Store.{Form, RowSort, element, attribute, text, Row, Forest, bare, tree, heads, Store}
-use Rattle.rules.specs.Layout.{valueWidth, rowCode, indexOf, rowIndex, indexed}
+use Rattle.rules.specs.Layout.{valueWidth, indexed}
 use Rattle.rules.specs.WellFormed.{definitionName, membersOf, Reaches, directly}
 use Rattle.rules.specs.Conforming.{isElement, EveryRow, RowConforms}
-use Rattle.rules.specs.Lines.{elementNamed}
 use Rattle.rules.specs.Passing.{good}
 use Rattle.rules.specs.Change.{nameAtIndex}
 use Rattle.rules.proofs.Words.{and-split}
@@ -23,47 +19,11 @@ use Rattle.rules.proofs.Height.{reaches-then}
 use Rattle.rules.proofs.WellFormedLaws.{well-formed, no-circle}
 use Rattle.rules.proofs.PassingLaws.{good-is}
 use Rattle.change_laws.proofs.ConformingForms.{element-named}
-use Rattle.store_check.proofs.IndexLaws.{index-name, name-of}
-use Rattle.store_check.proofs.AttributeRows.{rowWritten}
+use Rattle.store_check.proofs.IndexLaws.{element-test}
 use Rattle.row_walk.specs.declared.Which.the-variants.{Elements}
 use Rattle.row_walk.specs.Walk.{matches}
 use Rattle.plans.specs.Trees.{NoneOf, NotNested}
 use Rattle.rules.proofs.ConformingLaws.{is-element}
-
--- ---- definitions by name and by index
--- a name stands at its index
-index-at : (n : Bytes) (form : Form) → indexOf n form < length form → nameAtIndex (indexOf n form) form ≡ n
-index-at n [] l = absurd (omega arith)
-index-at n (d ∷ form) l = by (same n (d .name)) refl (index-at n form)
-  where
-    by : (c : Bool) → same n (d .name) ≡ c → (indexOf n form < length form → nameAtIndex (indexOf n form) form ≡ n) → nameAtIndex (indexOf n (d ∷ form)) (d ∷ form) ≡ n
-    by true q f = rw (q, indexOf) (sym (same-eq n (d .name) q))
-    by false q f =
-        let e : indexOf n (d ∷ form) ≡ suc (indexOf n form) = rw (q, indexOf) in
-        ap (λ (i : ℕ). nameAtIndex i (d ∷ form)) e ∙ f (omega arith)
-
-module _ (form : Form) (once : Distinct (map definitionName form)) (o : ℕ) (below : o < length form) where
-  name-test : (n : Bytes) → eqb (indexOf n form) o ≡ same (nameAtIndex o form) n
-  name-test n = by (same (nameAtIndex o form) n) refl
-    where
-      by : (c : Bool) → same (nameAtIndex o form) n ≡ c → eqb (indexOf n form) o ≡ same (nameAtIndex o form) n
-      by true q =
-          eq-eqb (indexOf n form) o (ap (λ (z : Bytes). indexOf z form) (sym (name-of form o below ∙ same-eq (nameAtIndex o form) n q)) ∙ index-name form once o below) ∙ sym q
-      by false q =
-          ne-eqb (indexOf n form) o
-          (λ e.
-          let l : indexOf n form < length form = omega arith in
-          false≢true (sym q ∙ bytes .same← (nameAtIndex o form) n (ap (λ (i : ℕ). nameAtIndex i form) (sym e) ∙ index-at n form l)))
-          ∙ sym q
-
-  -- an element of definition o, by index and by name
-  pub element-test : (owner : Bytes) (r : Row) → matches (Elements o) (rowWritten form owner r) ≡ elementNamed (nameAtIndex o form) r
-  element-test owner r = by (r .sort) refl
-    where
-      by : (t : RowSort) → r .sort ≡ t → (eqb (rowCode (r .sort)) 1 && eqb (rowIndex form owner r) o) ≡ (isElement (r .sort) && same (nameAtIndex o form) (r .name))
-      by element q = rw q (name-test (r .name))
-      by attribute q = rw q
-      by text q = rw q
 
 -- ---- rows below a row
 -- an element right below a row that conforms is a member of an element's definition

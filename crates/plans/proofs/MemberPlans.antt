@@ -23,6 +23,7 @@ use Rattle.rules.specs.Change.{insertPlan, removePlan, pickedPlan, plan, change
 use Rattle.rules.specs.Change as change
 use Rattle.rules.proofs.PassingLaws.{good-is}
 use Rattle.change_laws.proofs.Rowwise.{Standing}
+use Rattle.store_check.proofs.IndexLaws.{element-test}
 use Rattle.store_check.proofs.AttributeRows.{rowWritten}
 use Rattle.row_walk.specs.declared.Which.the-variants.{Elements}
 use Rattle.row_walk.specs.declared.Plan.{Plan}
@@ -33,7 +34,6 @@ use Rattle.plans.proofs.Fillings.{filling-index}
 use Rattle.plans.proofs.TreePlans.{documents-follow}
 use Rattle.plans.proofs.FollowingLaws.{index-same, value-same, follows-all, takes-follow}
 use Rattle.plans.proofs.DocumentPlans.{given}
-use Rattle.plans.proofs.Instances.{element-test}
 use Rattle.plans.proofs.AttributeCallsPlanned.{and-swap}
 use Rattle.plans.proofs.ModelForms.{known-element, picked-known, named-test, later-test}
 use Rattle.model_writer.proofs.FormAfter.{rows-kept}

@@ -22,13 +22,12 @@ use Rattle.rules.proofs.Apart.{names-plug}
 use Rattle.rules.proofs.PassingLaws.{good-is}
 use Rattle.change_laws.proofs.Rowwise.{Standing}
 use Rattle.change_laws.proofs.ModelAfter.{place-right}
-use Rattle.store_check.proofs.IndexLaws.{Indexed, known-index, name-of, definition-in}
+use Rattle.store_check.proofs.IndexLaws.{Indexed, known-index, name-of, definition-in, element-test}
 use Rattle.store_check.proofs.AttributeRows.{rowWritten}
 use Rattle.row_walk.specs.declared.Which.the-variants.{Elements}
 use Rattle.row_walk.specs.declared.Later.the-variants.{Unmarked}
 use Rattle.row_walk.specs.Walk.{matches, placeMark, isLater}
 use Rattle.plans.specs.ModelCalls.{Marked}
-use Rattle.plans.proofs.Instances.{element-test}
 use Rattle.rules.proofs.ConformingLaws.{is-element}
 
 -- ---- rows by indices, whatever becomes of one model

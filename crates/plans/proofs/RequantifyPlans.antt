@@ -20,10 +20,11 @@ use Rattle.rules.specs.Change.{nameAtIndex, laterThan, changed}
 use Rattle.rules.specs.Change as change
 use Rattle.rules.proofs.PassingLaws.{good-is}
 use Rattle.rules.proofs.Words.{or-split}
-use Rattle.change_laws.proofs.RowEdits.{keep, revalued}
+use Rattle.change_laws.proofs.RowEdits.{rowSerial, keep, revalued}
 use Rattle.change_laws.proofs.Rowwise.{Standing}
 use Rattle.change_laws.proofs.StandingLaws.{children-are, children-once}
-use Rattle.change_laws.proofs.InstanceRows.{rowSerial, keep-none, keep-no, keep-yes}
+use Rattle.change_laws.proofs.InstanceRows.{keep-none, keep-no, keep-yes}
+use Rattle.store_check.proofs.IndexLaws.{element-test}
 use Rattle.store_check.proofs.AttributeRows.{rowWritten}
 use Rattle.filling.specs.declared.Filling.{Filling}
 use Rattle.row_walk.specs.declared.Which.the-variants.{Elements}
@@ -37,7 +38,6 @@ use Rattle.plans.specs.ModelCalls.{Marked, cutTakes, requantifyPlan}
 use Rattle.plans.proofs.SimulationLaws.{documents-simulate}
 use Rattle.plans.proofs.FollowingLaws.{index-same, value-same}
 use Rattle.plans.proofs.DocumentPlans.{given}
-use Rattle.plans.proofs.Instances.{element-test}
 use Rattle.plans.proofs.ModelForms.{known-element, later-test, place-test}
 use Rattle.plans.proofs.PlacedRows.{isLate, NoneAt, FirstAt}
 

@@ -1,3 +1,2 @@
 pub mod ContextViews
-pub mod SpreadLaws
 pub mod RemoveLaws

@@ -36,6 +36,7 @@ use Rattle.model.specs.Places.{Particles, noParticle, top}
 use Rattle.model.specs.Positions.{elementParticle, groupParticle, spread, count, trailing, level}
 use Rattle.model.proofs.ParticleLaws.{particle-at, particles-drop, particles-take}
 use Rattle.model.proofs.PositionLaws.{spread-plug, length-leading, length-spread}
+use Rattle.model.proofs.SpreadLaws.{members-spread}
 use Rattle.model.proofs.MembersLaws.{members-here}
 use Rattle.model.proofs.FactsLaws.{facts-nothing}
 use Rattle.model_writer.proofs.HeadAfter.{depth-holder}
@@ -51,7 +52,6 @@ use Rattle.model_places.proofs.PickLaws.{around, from-there, one-there, read-th
 use Rattle.instance_search.proofs.InstanceLaws.{instance-is}
 use Rattle.model_places.proofs.CountLaws.{done-many}
 use Rattle.remove_refusals.proofs.ContextViews.{Lead, Inner, View, outer, inner, view}
-use Rattle.remove_refusals.proofs.SpreadLaws.{members-spread}
 use Rattle.rules.proofs.Words.{or-both, and-off}
 use Rattle.rules.proofs.DecodeLaws.{quantifier-code}
 

@@ -6,8 +6,8 @@ use mathlib.Core.Path.{_≡_, refl, ap, ap₂, _∙_, sym}
 use mathlib.Core.Bool.{true}
 use mathlib.Core.List.{List, [], _∷_, _++_, append-assoc, append-nil}
 use lib.Dec.{lit<}
-use lib.ListN.{length, take, length-append}
-use lib.Seq.{take-at, drop-at}
+use lib.ListN.{length, take, drop, length-append}
+use lib.Seq.{take-at, drop-at, take-nil, drop-nil, take-append-add, drop-append-add}
 use borrow.Author.Tests.{eq-eqb}
 use Rattle.rules.specs.Bytes.{Bytes}
 use Rattle.rules.specs.Preorder.{Deep}
@@ -301,3 +301,19 @@ small-bytes w f h =
 pub each-append : {A : Type 0} (f : A → Bytes) (a b : List A) → each f (a ++ b) ≡ each f a ++ each f b
 each-append f [] b = refl
 each-append f (x ∷ a) b = ap (λ (z : Bytes). f x ++ z) (each-append f a b) ∙ sym (append-assoc (f x) (each f a) (each f b))
+
+-- records of one size, the first k of them and those after
+module _ {A : Type 0} (f : A → Bytes) (size : ℕ) (long : (x : A) → length (f x) ≡ size) where
+  one-more : (k : ℕ) (x : A) → size * suc k ≡ length (f x) + size * k
+  one-more k x = omega (arith, mul-suc size k, long x)
+
+  pub each-take : (k : ℕ) (xs : List A) → take (size * k) (each f xs) ≡ each f (take k xs)
+  each-take zero xs = ap (λ (n : ℕ). take n (each f xs)) (mul-zero size)
+  each-take (suc k) [] = take-nil (size * suc k)
+  each-take (suc k) (x ∷ xs) =
+      ap (λ (n : ℕ). take n (f x ++ each f xs)) (one-more k x) ∙ take-append-add (f x) (each f xs) (size * k) ∙ ap (λ (z : Bytes). f x ++ z) (each-take k xs)
+
+  pub each-drop : (k : ℕ) (xs : List A) → drop (size * k) (each f xs) ≡ each f (drop k xs)
+  each-drop zero xs = ap (λ (n : ℕ). drop n (each f xs)) (mul-zero size)
+  each-drop (suc k) [] = drop-nil (size * suc k)
+  each-drop (suc k) (x ∷ xs) = ap (λ (n : ℕ). drop n (f x ++ each f xs)) (one-more k x) ∙ drop-append-add (f x) (each f xs) (size * k) ∙ each-drop k xs

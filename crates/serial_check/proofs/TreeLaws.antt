@@ -14,11 +14,11 @@ use borrow.Author.Tests.{ltb-true, ltb-false, eqb-true, eqb-false}
 use Rattle.rules.specs.Bytes.{Bytes}
 use Rattle.codec.proofs.Numbers.{zeros-read}
 use Rattle.serial_check.specs.Serials.{serialAtRow, Ranged, Apart}
-use Rattle.serial_check.specs.Trees.{placeBelow, Met, here, there, Comes, last, later, Rising, Sought, Trees, Put}
+use Rattle.serial_check.specs.Trees.{placeBelow, Met, atOnce, there, Comes, last, later, Rising, Sought, Trees, Put}
 
 -- ---- walks
 met-none : {below : List ℕ} {i h q : ℕ} → Met below i h q → h ≡ 0 → ⊥
-met-none here e = omega arith
+met-none atOnce e = omega arith
 met-none (there m) e = omega arith
 
 comes-none : {below : List ℕ} {p h q : ℕ} → Comes below p h q → h ≡ 0 → ⊥
@@ -27,14 +27,14 @@ comes-none (later c) e = omega arith
 
 -- a walk from a row meets it, and what is met further on
 met-cases : {below : List ℕ} {i h q : ℕ} (j : ℕ) → Met below i h q → h ≡ suc j → (i ≡ j) ⊎ Met below i (getD below (placeBelow j q) 0) (q / 4)
-met-cases j here e = inl (omega arith)
+met-cases j atOnce e = inl (omega arith)
 met-cases {below} {i} j (there {j = k} {q = q} m) e =
     let g : k ≡ j = omega arith in
     inr (subst (λ (n : ℕ). Met below i (getD below (placeBelow n q) 0) (q / 4)) g m)
 
 -- whom a walk meets is one of the first k rows
 met-low : {below : List ℕ} {i h q : ℕ} (k : ℕ) → Rising below k → h ≤ k → Met below i h q → i < k
-met-low k r l here = omega arith
+met-low k r l atOnce = omega arith
 met-low k r l (there {j} {q} m) = met-low k r (r .low (placeBelow j q)) m
 
 -- the place that a walk comes to is below one of the first k rows
@@ -44,14 +44,14 @@ comes-low k r l (later {j} {q} c) = comes-low k r (r .low (placeBelow j q)) c
 
 -- a store to an empty place leaves every walk its rows
 met-set : {below : List ℕ} {i h q : ℕ} (p v : ℕ) → getD below p 0 ≡ 0 → Met below i h q → Met (set below p v) i h q
-met-set p v z here = here
+met-set p v z atOnce = atOnce
 met-set {below} {i} p v z (there {j} {q} m) =
     there {j = j} {q = q} (rw (getD-set-other below p (placeBelow j q) v 0 (λ e. met-none m (ap (λ (n : ℕ). getD below n 0) e ∙ z))) (met-set p v z m))
 
 -- .. and a row stored there is met by the walk that comes there
 comes-set : {below : List ℕ} {p h q : ℕ} (k : ℕ) → getD below p 0 ≡ 0 → p < length below → Comes below p h q → Met (set below p (suc k)) k h q
 comes-set {below} {p} k z l (last {j} {q} e) =
-    there {j = j} {q = q} (rw (← e, getD-set-same below p (suc k) 0 l) here)
+    there {j = j} {q = q} (rw (← e, getD-set-same below p (suc k) 0 l) atOnce)
 comes-set {below} {p} k z l (later {j} {q} c) =
     there {j = j} {q = q} (rw (getD-set-other below p (placeBelow j q) (suc k) 0 (λ e. comes-none c (ap (λ (n : ℕ). getD below n 0) e ∙ z))) (comes-set k z l c))
 
@@ -74,7 +74,7 @@ pub seek-starts : (w : ℕ) (rows : Bytes) (below : List ℕ) (from s : ℕ) →
 seek-starts w rows below from s l m = seek-row l (record { on = λ i o. o; comes = λ p o. o; rest = λ i o e. o; low = m })
 
 pub seek-meets : {w : ℕ} {rows : Bytes} {below : List ℕ} {from s j q : ℕ} → Seek w rows below from s (suc j) q → serialAtRow w rows j ≡ s → Sought w rows below from s 16384
-seek-meets {j = j} k e = record { met = λ l. (j, k .on j here, e); free = λ l. absurd (omega arith) }
+seek-meets {j = j} k e = record { met = λ l. (j, k .on j atOnce, e); free = λ l. absurd (omega arith) }
 
 module _ {w : ℕ} {rows : Bytes} {below : List ℕ} {from s j q : ℕ} (k : Seek w rows below from s (suc j) q) (n : serialAtRow w rows j ≡ s → ⊥) where
   -- a row that has the serial and was not passed is met further on
@@ -157,7 +157,7 @@ module _ {w : ℕ} {rows : Bytes} {heads below : List ℕ} {k : ℕ} (t : Trees 
               distinct = apart-more (t .distinct) (λ i h e. met-none (covered i h (e ∙ sym es)) z);
               rising = rising-more k (suc k) (omega arith) (t .rising);
               low = low-set heads k (s % 4096) (t .low) b;
-              covers = each-more k covers (rw (← es, getD-set-same heads (s % 4096) (suc k) 0 b) here);
+              covers = each-more k covers (rw (← es, getD-set-same heads (s % 4096) (suc k) 0 b) atOnce);
               many = simp length-set (t .many);
               long = t .long;
             };

@@ -19,7 +19,7 @@ placeBelow j q = 4 * j + q % 4
 
 -- the walk from h by the bits of q meets row i; h is a row's number and 1, or 0 for none
 pub data Met (below : List ℕ) (i : ℕ) : ℕ → ℕ → Type 0 where
-  here : {q : ℕ} → Met below i (suc i) q
+  atOnce : {q : ℕ} → Met below i (suc i) q
   there : {j q : ℕ} → Met below i (getD below (placeBelow j q) 0) (q / 4) → Met below i (suc j) q
 
 -- the walk from h by the bits of q comes to the place p

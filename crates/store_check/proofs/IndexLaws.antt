@@ -2,7 +2,7 @@
 use Prim.Native.Nat.{ℕ, zero, suc, _<_}
 use native.Mathlib.Omega.{arith}
 use mathlib.Core.Path.{_≡_, refl, ap, _∙_, sym}
-use mathlib.Core.Bool.{Bool, true, false, false≢true}
+use mathlib.Core.Bool.{Bool, true, false, _&&_, false≢true}
 use mathlib.Core.Option.{some}
 use mathlib.Core.List.{List, [], _∷_, map, List·Memᴰ, List·Memᴰ·head, List·Memᴰ·tail, Memᴰ·cast, Memᴰ·map, Memᴰ·of-map}
 use lib.Dec.{eqb}
@@ -10,10 +10,12 @@ use lib.ListN.{length, length-map}
 use borrow.Author.Tests.{eq-eqb, ne-eqb}
 use Rattle.rules.specs.Bytes.{Bytes, same, bytes, same-eq, same-refl}
 use Rattle.rules.specs.Model.{Distinct}
-use Rattle.rules.specs.Store.{Definition, Form}
-use Rattle.rules.specs.Layout.{indexOf}
+use Rattle.rules.specs.Store.{Definition, Form, RowSort, element, attribute, text, Row}
+use Rattle.rules.specs.Layout.{indexOf, rowCode, rowIndex}
 use Rattle.rules.specs.Decode.{nameAt}
 use Rattle.rules.specs.WellFormed.{definitionName, lookup, isThere, known}
+use Rattle.rules.specs.Conforming.{isElement}
+use Rattle.rules.specs.Lines.{elementNamed}
 use Rattle.rules.specs.Change.{definitionAt, nameAtIndex}
 use Rattle.rules.proofs.Apart.{differs}
 
@@ -94,20 +96,41 @@ known-index (d ∷ ds) n h = by (same n (d .name)) refl (known-index ds n)
 pub index-once : (form : Form) (n m : Bytes) → known form n ≡ true → known form m ≡ true → indexOf n form ≡ indexOf m form → n ≡ m
 index-once form n m h g e = sym (known-index form n h .name) ∙ ap (λ (i : ℕ). nameAt i (namesOf form)) e ∙ known-index form m g .name
 
+-- a name stands at its index
+index-at : (n : Bytes) (form : Form) → indexOf n form < length form → nameAtIndex (indexOf n form) form ≡ n
+index-at n [] l = absurd (omega arith)
+index-at n (d ∷ form) l = by (same n (d .name)) refl (index-at n form)
+  where
+    by : (c : Bool) → same n (d .name) ≡ c → (indexOf n form < length form → nameAtIndex (indexOf n form) form ≡ n) → nameAtIndex (indexOf n (d ∷ form)) (d ∷ form) ≡ n
+    by true q f = rw (q, indexOf) (sym (same-eq n (d .name) q))
+    by false q f =
+        let e : indexOf n (d ∷ form) ≡ suc (indexOf n form) = rw (q, indexOf) in
+        ap (λ (i : ℕ). nameAtIndex i (d ∷ form)) e ∙ f (omega arith)
+
 -- of the definition with index i: the name is the one with that index
 module _ (form : Form) (once : Distinct (namesOf form)) (i : ℕ) (h : i < length form) where
   abbrev n : Bytes
   n = nameAtIndex i form
 
-  pub name-known : known form n ≡ true
-  name-known = ap (known form) (sym (name-of form i h)) ∙ known-at form once i h
-
   pub name-index : indexOf n form ≡ i
   name-index = ap (λ (m : Bytes). indexOf m form) (sym (name-of form i h)) ∙ index-name form once i h
 
-  pub index-same : (m : Bytes) → known form m ≡ true → eqb (indexOf m form) i ≡ same n m
-  index-same m k = by (same n m) refl
+  pub index-same : (m : Bytes) → eqb (indexOf m form) i ≡ same n m
+  index-same m = by (same n m) refl
     where
       by : (b : Bool) → same n m ≡ b → eqb (indexOf m form) i ≡ b
       by true e = eq-eqb (indexOf m form) i (ap (λ (x : Bytes). indexOf x form) (sym (bytes .same→ n m e)) ∙ name-index)
-      by false e = ne-eqb (indexOf m form) i (λ z. false≢true (sym e ∙ bytes .same← n m (index-once form n m name-known k (name-index ∙ sym z))))
+      by false e =
+          ne-eqb (indexOf m form) i
+          (λ z.
+          let l : indexOf m form < length form = omega arith in
+          false≢true (sym e ∙ bytes .same← n m (ap (λ (j : ℕ). nameAtIndex j form) (sym z) ∙ index-at m form l)))
+
+  -- an element of that definition, by index and by name
+  pub element-test : (owner : Bytes) (r : Row) → (eqb (rowCode (r .sort)) 1 && eqb (rowIndex form owner r) i) ≡ elementNamed (nameAtIndex i form) r
+  element-test owner r = by (r .sort) refl
+    where
+      by : (t : RowSort) → r .sort ≡ t → (eqb (rowCode (r .sort)) 1 && eqb (rowIndex form owner r) i) ≡ (isElement (r .sort) && same (nameAtIndex i form) (r .name))
+      by element q = rw q (index-same (r .name))
+      by attribute q = rw q
+      by text q = rw q

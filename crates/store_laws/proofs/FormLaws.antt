@@ -19,14 +19,10 @@ use Rattle.rules.proofs.DecodeLaws.{good-flat}
 use Rattle.lookup.specs.Bodies.{bodiesOf, rowsStartIn, RowsBegin}
 use Rattle.layout.specs.Bodies.{widthOf, Number}
 use Rattle.store_laws.specs.Stores.{storeIn}
-use Rattle.store_laws.specs.Forms.{formBytes, formRead, Forms}
+use Rattle.store_laws.specs.Forms.{formBytes, formRead, bareForm, Forms}
 use Rattle.store_laws.proofs.StoreLaws.{Holds, width-of-bodies}
 use Rattle.store_laws.proofs.FormBytesLaws.{Few, few-of, few-definitions, few-particles, few-attributes, form-then, length-form, whole, ceilings-rows}
 use Rattle.codec.proofs.Records.{length-many}
-
--- the form of g alone, as `formRead` reads it
-abbrev pub bareForm : FlatStore → FlatStore
-bareForm g = record { version = 0; next = 0; definitions = g .definitions; particles = g .particles; attributes = g .attributes; rows = [] }
 
 -- the bytes are those of the form of g, of d definitions, p particles and a attributes, whose fields hold what it has
 pub record FormOf (w : ℕ) (g : FlatStore) (form : Bytes) (d p a : ℕ) : Type 0 where

@@ -2,7 +2,7 @@
 use Prim.Native.Nat.{ℕ}
 use mathlib.Core.Path.{_≡_}
 use mathlib.Core.Bool.{true}
-use mathlib.Core.List.{_++_}
+use mathlib.Core.List.{[], _++_}
 use Rattle.rules.specs.Bytes.{Bytes}
 use Rattle.rules.specs.Layout.{FlatStore, definitionBytes, particleBytes, attributeBytes, each}
 use Rattle.rules.specs.Decode.{readBodies}
@@ -15,6 +15,10 @@ formBytes w g = each definitionBytes (g .definitions) ++ (each particleBytes (g 
 -- the form that such bytes are read as, for d definitions, p particles and a attributes; it has no version and no rows
 unfoldable pub formRead : ℕ → Bytes → ℕ → ℕ → ℕ → FlatStore
 formRead w form d p a = readBodies w 0 0 d p a 0 form
+
+-- the form of g alone, as `formRead` reads it
+abbrev pub bareForm : FlatStore → FlatStore
+bareForm g = record { version = 0; next = 0; definitions = g .definitions; particles = g .particles; attributes = g .attributes; rows = [] }
 
 -- the bytes are those of the form that is read, which keeps within the ceilings
 pub record Forms (w : ℕ) (form : Bytes) (d p a : ℕ) : Type 0 where

@@ -8,26 +8,24 @@ use Rattle.rules.specs.Layout.{FlatStore, flat}
 use Rattle.rules.specs.Passing.{passes}
 use Rattle.rules.specs.Change.{Call, after}
 use Rattle.rules.specs.Refusal.{first, conditions}
-use Rattle.rules.specs.Outcome.{Outcome, refused, outcome, Answers}
+use Rattle.rules.specs.Outcome.{Outcome, outcome, Answers}
 use Rattle.store_laws.specs.Stores.{storeIn}
 use Rattle.store_writer.specs.Writing.{limited}
 use Rattle.store_laws.proofs.StoreLaws.{holds}
 use Rattle.store_writer.proofs.OutcomeLaws.{outcome-bad, outcome-refused, outcome-limited}
+use Rattle.store_writer.proofs.LimitLaws.{answers-refused}
 
 -- an answer to one outcome is one to an equal outcome
 pub answers-equal : {o o′ : Outcome} {out : Bytes} {number len : ℕ} {left : Bytes} → o ≡ o′ → Answers o′ out number len left → Answers o out number len left
 answers-equal {out = out} {number = n} {len = l} {left = left} e a = subst (λ (x : Outcome). Answers x out n l left) (sym e) a
 
-refused-is : (n : ℕ) (out : Bytes) → Answers (refused n) out n 0 out
-refused-is n out = record { number-is = refl; length-is = refl; buffer-is = refl }
-
 module _ (c : Call) (bs : Bytes) (room : ℕ) {out : Bytes} where
   answers-bad : passes bs ≡ false → Answers (outcome c bs room) out 1 0 out
-  answers-bad h = answers-equal (outcome-bad c bs room h) (refused-is 1 out)
+  answers-bad h = answers-refused 1 (outcome-bad c bs room h)
 
   answers-condition : passes bs ≡ true → (n : ℕ) → n ≡ first (conditions c (storeIn bs)) → (n ≡ 0 → ⊥) → Answers (outcome c bs room) out n 0 out
   answers-condition h zero e f = absurd (f refl)
-  answers-condition h (suc n) e f = answers-equal (outcome-refused c bs room (holds bs h) n (sym e)) (refused-is (suc n) out)
+  answers-condition h (suc n) e f = answers-refused (suc n) (outcome-refused c bs room (holds bs h) n (sym e))
 
   -- f: the bodies of the store that is left
   pub answers-written : passes bs ≡ true → (n : ℕ) → n ≡ first (conditions c (storeIn bs)) → n ≡ 0 → (f : FlatStore) → flat (after c (storeIn bs)) ≡ f

@@ -12,8 +12,8 @@ use Rattle.rules.specs.Outcome.{Answers}
 use Rattle.row_walk.specs.declared.Plan.{Plan}
 use Rattle.store_writer.specs.Writing.{limited}
 use Rattle.planned_rows.specs.Planned.{planned, plannedIn}
-use Rattle.store_laws.specs.Forms.{formRead}
-use Rattle.store_laws.proofs.FormLaws.{bareForm, FormOf, read-form}
+use Rattle.store_laws.specs.Forms.{formRead, bareForm}
+use Rattle.store_laws.proofs.FormLaws.{FormOf, read-form}
 use Rattle.planned_rows.proofs.PlannedLaws.{planned-same}
 use Rattle.store_writer.proofs.LimitLaws.{answers-refused, limited-ceiling}
 use Rattle.store_writer.proofs.CallLaws.{answers-equal}

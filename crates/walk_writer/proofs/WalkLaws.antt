@@ -25,7 +25,7 @@ use Rattle.walk_writer.specs.declared.Stepped.{Stepped}
 use Rattle.walk_writer.specs.declared.PlainRun.{PlainRun}
 use Rattle.walk_writer.specs.declared.Passed.{Passed}
 use Rattle.row_walk.specs.Walk.{gone, closes, closed, owed, rowDepth, emitted, nextOpen, walked, atFirst, namesGround}
-use Rattle.walk_writer.specs.Step.{stepRows, stepOpen, Came, Near, WalkRow, WalkRows, PlainRows, Going, Advances}
+use Rattle.walk_writer.specs.Step.{stepRows, stepOpen, Came, Near, WalkRow, WalkRows, PlainRows, WalkOn, Advances}
 use Rattle.walk_writer.proofs.StepLaws.{near-if, near-step}
 
 -- ---- rows
@@ -108,7 +108,7 @@ near-first p = near-if (namesGround (p .above)) (record { below = omega arith })
 
 module _ {w : ℕ} {p : Plan} {v : Bytes} {fill : ℕ → List (Deep FlatRow)} where
   pub going-start : {c : Cursor} {out t : Bytes} {m : ℕ} {o : Open} → WalkRows w m t → rowSize w * m ≤ length t → Room w c → o ≡ atFirst p
-      → Going w p v fill (walked p v fill (atFirst p) (readMany readRow (rowSize w) m t)) c out t m c o out
+      → WalkOn w p v fill (walked p v fill (atFirst p) (readMany readRow (rowSize w) m t)) c out t m c o out
   going-start {t = t} {m = m} x h r e = record {
     goes = λ r′ out″ k. written-as (ap (λ (z : Open). walked p v fill z (readMany readRow (rowSize w) m t)) (sym e)) k;
     near = rw e (near-first p);
@@ -118,16 +118,16 @@ module _ {w : ℕ} {p : Plan} {v : Bytes} {fill : ℕ → List (Deep FlatRow)} w
     long = refl;
   }
 
-  going-as : {whole : List (Deep FlatRow)} {c at : Cursor} {out t t₁ out′ : Bytes} {m m₁ : ℕ} {o : Open} → t ≡ t₁ → m ≡ m₁ → Going w p v fill whole c out t m at o out′
-      → Going w p v fill whole c out t₁ m₁ at o out′
+  going-as : {whole : List (Deep FlatRow)} {c at : Cursor} {out t t₁ out′ : Bytes} {m m₁ : ℕ} {o : Open} → t ≡ t₁ → m ≡ m₁ → WalkOn w p v fill whole c out t m at o out′
+      → WalkOn w p v fill whole c out t₁ m₁ at o out′
   going-as et em g = rw (← et, ← em) g
 
-  module _ {whole : List (Deep FlatRow)} {c : Cursor} {out t : Bytes} {m : ℕ} {at : Cursor} {o : Open} {out′ : Bytes} (g : Going w p v fill whole c out t m at o out′) where
+  module _ {whole : List (Deep FlatRow)} {c : Cursor} {out t : Bytes} {m : ℕ} {at : Cursor} {o : Open} {out′ : Bytes} (g : WalkOn w p v fill whole c out t m at o out′) where
     pub going-stop : at .left ≡ 0 → Written w whole c out at out′
     going-stop e = g .goes at out′ (written-stop e)
 
     pub going-step : 0 < m → {s : Stepped} {out₁ : Bytes} → Came w (stepRows p v fill o (readRow (take (rowSize w) t))) (stepOpen p v fill o (readRow (take (rowSize w) t))) at out′ s out₁
-        → Going w p v fill whole c out (drop (rowSize w) t) (m - 1) (s .cursor) (s .opened) out₁
+        → WalkOn w p v fill whole c out (drop (rowSize w) t) (m - 1) (s .cursor) (s .opened) out₁
     going-step h y =
         record {
           goes = λ r out″ z. g .goes r out″
@@ -157,10 +157,10 @@ module _ {w : ℕ} {p : Plan} {v : Bytes} {fill : ℕ → List (Deep FlatRow)} w
       pass-small = omega (arith, bytes-passed, block-small (g .room) (x .within))
 
       -- some rows further
-      pub going-pass : Going w p v fill whole c out (take (length t - k) (drop k t)) (m - s .rows) (s .cursor) (s .opened) out₁
+      pub going-pass : WalkOn w p v fill whole c out (take (length t - k) (drop k t)) (m - s .rows) (s .cursor) (s .opened) out₁
       going-pass =
           let on = x .going in
-          let there : Going w p v fill whole c out (drop (rowSize w * s .rows) t) (m - s .rows) (s .cursor) (s .opened) out₁ =
+          let there : WalkOn w p v fill whole c out (drop (rowSize w * s .rows) t) (m - s .rows) (s .cursor) (s .opened) out₁ =
           record { goes = λ r out″ z. g .goes r out″ (on .goes r out″ z); near = on .near; room = on .room; rows = on .rows; size = on .size; long = on .long ∙ g .long } in
           rw (tail-seen t k, bytes-passed) there
 
@@ -173,7 +173,7 @@ module _ {w : ℕ} {p : Plan} {v : Bytes} {fill : ℕ → List (Deep FlatRow)} {
     (b : PlainRows w p t most o run) (x : WalkRows w m t) (h : rowSize w * m ≤ length t) (r : Room w c) (l : most ≤ m)
     (y : Written w (readMany readRow (rowSize w) (run .count) t) c out at out₁) where
   -- after the block
-  going-block : Going w p v fill (walked p v fill o (readMany readRow (rowSize w) m t)) c out (drop (rowSize w * run .count) t) (m - run .count) at (run .opened) out₁
+  going-block : WalkOn w p v fill (walked p v fill o (readMany readRow (rowSize w) m t)) c out (drop (rowSize w * run .count) t) (m - run .count) at (run .opened) out₁
   going-block =
       let k : run .count ≤ m = omega (arith, b .few) in
       let left : List (Deep FlatRow) = readMany readRow (rowSize w) (m - run .count) (drop (rowSize w * run .count) t) in

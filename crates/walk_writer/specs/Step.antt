@@ -106,7 +106,7 @@ pub record PlainRows (w : ℕ) (p : Plan) (rows : Bytes) (most : ℕ) (o : Open)
 
 -- before a row: once what comes of the m rows that are left is written, the whole is; they are rows of an old store, and
 -- there is room for what may be written
-pub record Going (w : ℕ) (p : Plan) (v : Bytes) (fill : ℕ → List (Deep FlatRow)) (whole : List (Deep FlatRow)) (c : Cursor) (out : Bytes) (t : Bytes) (m : ℕ) (at : Cursor) (o : Open)
+pub record WalkOn (w : ℕ) (p : Plan) (v : Bytes) (fill : ℕ → List (Deep FlatRow)) (whole : List (Deep FlatRow)) (c : Cursor) (out : Bytes) (t : Bytes) (m : ℕ) (at : Cursor) (o : Open)
     (out′ : Bytes) : Type 0 where
   pub goes : (r : Cursor) (out″ : Bytes) → Written w (walked p v fill o (readMany readRow (rowSize w) m t)) at out′ r out″ → Written w whole c out r out″
   pub near : Near o
@@ -120,4 +120,4 @@ pub record Advances (w : ℕ) (p : Plan) (v : Bytes) (fill : ℕ → List (Deep 
   pub further : 0 < r .rows
   pub few : r .rows ≤ m
   pub within : r .rows ≤ c .left
-  pub going : Going w p v fill (walked p v fill o (readMany readRow (rowSize w) m t)) c out (drop (rowSize w * r .rows) t) (m - r .rows) (r .cursor) (r .opened) out′
+  pub going : WalkOn w p v fill (walked p v fill o (readMany readRow (rowSize w) m t)) c out (drop (rowSize w * r .rows) t) (m - r .rows) (r .cursor) (r .opened) out′

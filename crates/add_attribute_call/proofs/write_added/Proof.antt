@@ -3,7 +3,7 @@
 -- called (`added-asks`), and its answer is that for `added` (`added-answers`).
 use native.Mathlib.Omega.{arith}
 use lib.ListN.{length}
-use Rattle.attribute_form.proofs.CountLaws.{count-attributes}
+use Rattle.attribute_form.proofs.CountLaws.{number-of-attributes}
 use Rattle.attribute_form.proofs.FormParts.{zeros-long}
 use Rattle.add_attribute_call.proofs.Laws.{added-full, added-fits, added-long, added-asks, added-answers}
 use borrow.Author.Needs.{needs}
@@ -53,7 +53,7 @@ put-added-requires c κs =
     let start = at-attribute-count .before .before .before .before .before .before .before in (
       (start .pre),
       at-attributes-to .attributes-to .ensures .most,
-      omega (arith, at-attributes-to .attributes-to .ensures .most, count-attributes (start .args .store .now) (at-attribute-count .attribute-count .ensures)),
+      omega (arith, at-attributes-to .attributes-to .ensures .most, number-of-attributes (start .args .store .now) (at-attribute-count .attribute-count .ensures)),
     )
 
 array-share-prefix-form : tie.Need-array-share-prefix-form

@@ -1,9 +1,9 @@
 -- `destroy_attribute_call::write_dropped` meets its contract: what `put_dropped` lays fits its buffer (`dropped-fits`,
 -- `dropped-long` of Laws), `edit_form` may be called (`dropped-asks`), and its answer is that for `dropped`
--- (`dropped-answers`); there is an attribute, so the count less 1 is in range (`count-attributes` of CountLaws).
+-- (`dropped-answers`); there is an attribute, so the count less 1 is in range (`number-of-attributes` of CountLaws).
 use native.Mathlib.Omega.{arith}
 use lib.ListN.{length}
-use Rattle.attribute_form.proofs.CountLaws.{count-attributes}
+use Rattle.attribute_form.proofs.CountLaws.{number-of-attributes}
 use Rattle.attribute_form.proofs.FormParts.{zeros-long}
 use Rattle.destroy_attribute_call.proofs.Laws.{dropped-fits, dropped-long, dropped-asks, dropped-answers}
 use borrow.Author.Needs.{needs}
@@ -61,7 +61,7 @@ sub-edit-form : tie.Need-sub-edit-form
 sub-edit-form c =
     let at-attribute-count = c .before .before .before .before .before .before in
     let start = at-attribute-count .before .before .before .before .before in
-    omega (arith, start .pre .inside, count-attributes (start .args .store .now) (at-attribute-count .attribute-count .ensures))
+    omega (arith, start .pre .inside, number-of-attributes (start .args .store .now) (at-attribute-count .attribute-count .ensures))
 
 slice-aggregate-edit-form-2 : tie.Need-slice-aggregate-edit-form-2
 slice-aggregate-edit-form-2 c = search needs

@@ -8,7 +8,7 @@ use Rattle.rules.specs.Decode.{readRow, readMany}
 use Rattle.filling.specs.Parts.{widthIn}
 use Rattle.row_walk.specs.Walk.{walked, atFirst}
 use Rattle.row_walk.specs.Lent.{planIn}
-use Rattle.walk_writer.specs.Step.{fillIn, Going}
+use Rattle.walk_writer.specs.Step.{fillIn, WalkOn}
 use Rattle.walk_writer.proofs.StepLaws.{asks-of}
 use Rattle.walk_writer.proofs.WalkLaws.{going-start, going-stop, pass-long, pass-small, going-pass, going-end}
 use borrow.Author.Needs.{needs}
@@ -20,7 +20,7 @@ abbrev Inv-loop : tie.InvT-loop
 Inv-loop form sizes p marks rows count text out₀ size t₀ m₀ at₀ o₀ out t m at o =
     let plan = planIn p marks in
     let fill = fillIn sizes form plan text in
-    Going (widthIn sizes) plan text fill (walked plan text fill (atFirst plan) (readMany readRow (rowSize (widthIn sizes)) count rows)) at₀ out₀ t m at o out
+    WalkOn (widthIn sizes) plan text fill (walked plan text fill (atFirst plan) (readMany readRow (rowSize (widthIn sizes)) count rows)) at₀ out₀ t m at o out
 
 abbrev μ-loop : tie.MeasureT-loop
 μ-loop form sizes p marks rows count text out₀ size t₀ m₀ at₀ o₀ out t m at o = m

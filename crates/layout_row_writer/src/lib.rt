@@ -1,5 +1,4 @@
 //! The row of a store, written: as far as the buffer goes, saying where the next bytes go.
-ghost use mathlib.Core.Path.{_≡_};
 ghost use mathlib.Core.List.{_++_};
 ghost use Prim.Native.Nat.{_+_, _<_, _≤_, _^_};
 ghost use lib.ListN.{length, take, replicate};

@@ -41,7 +41,7 @@ pub fn is_within(part: &[u8], edit: Edit, holder: model::place::Holder, n: usize
         Edit::Remove => true,
         Edit::Quantify(_) => true,
         Edit::Convert(_, m) => (holder.depth <= 4)
-            & moved_within(model_writer::past(part, n), holder.depth, m),
+            & moved_within(layout::particles_from(part, n), holder.depth, m),
         Edit::Flatten => true,
     }
 }

@@ -620,10 +620,10 @@ pub fn definitions_from(defs: &[u8], i: usize) -> &[u8]
 
 /// All but the first i particles.
 pub fn particles_from(parts: &[u8], i: usize) -> &[u8]
-    requires { ⌜ i < 4294967296 ⌝ }
+    requires { ⌜ i < 4611686018427387904 ⌝ }
     ensures { λ r. ⌜ now r ≡ drop (particleSize * i) (now (parts .entry)) ⌝ }
 {
-    records_from(parts, PARTICLE_SIZE, i)
+    window(parts, PARTICLE_SIZE * i, parts.len())
 }
 
 /// All but the first i attributes.

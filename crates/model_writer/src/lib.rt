@@ -25,14 +25,6 @@ pub enum Edit {
 
 // ---- particles
 
-/// All but the first n particles.
-pub fn past(s: &[u8], n: usize) -> &[u8]
-    requires { ⌜ n < 4611686018427387904 ⌝ }
-    ensures { λ r. ⌜ now r ≡ drop (particleSize * n) (now (s .entry)) ⌝ }
-{
-    layout::window(s, PARTICLE_SIZE * n, s.len())
-}
-
 fn shifted(depth: u8, deeper: bool) -> u8
     requires { ⌜ shift deeper depth < 256 ⌝ }
     ensures { λ r. ⌜ r ≡ shift deeper depth ⌝ }
@@ -139,7 +131,7 @@ fn put_requantified(ys: &[u8], q: Quantifier, d: usize, out: &mut [u8], at: usiz
         out,
         at,
     );
-    codec::put(past(ys, 1), out, next)
+    codec::put(layout::particles_from(ys, 1), out, next)
 }
 
 fn put_grouped(ys: &[u8], kind: GroupKind, n: usize, d: usize, out: &mut [u8], at: usize) -> usize
@@ -156,10 +148,10 @@ fn put_tail(ys: &[u8], edit: Edit, d: usize, out: &mut [u8], at: usize) -> usize
 {
     match edit {
         Edit::Insert(q, index) => put_inserted(ys, q, index, d, out, at),
-        Edit::Remove => codec::put(past(ys, 1), out, at),
+        Edit::Remove => codec::put(layout::particles_from(ys, 1), out, at),
         Edit::Quantify(q) => put_requantified(ys, q, d, out, at),
         Edit::Convert(kind, n) => put_grouped(ys, kind, n, d, out, at),
-        Edit::Flatten => put_moved(past(ys, 1), d, 0, false, out, at),
+        Edit::Flatten => put_moved(layout::particles_from(ys, 1), d, 0, false, out, at),
     }
 }
 
@@ -208,7 +200,7 @@ fn put_head(part: &[u8], edit: Edit, first: usize, n: usize, out: &mut [u8], at:
     let held = PARTICLE_SIZE * (first - 1);
     let next = codec::put(layout::window(part, 0, held), out, at);
     let group = layout::window(part, held, PARTICLE_SIZE);
-    let inner = put_recounted(group, past(part, n), edit, out, next);
+    let inner = put_recounted(group, layout::particles_from(part, n), edit, out, next);
     codec::put(
         layout::window(
             part,
@@ -235,7 +227,13 @@ pub fn put_part(
     ensures { λ r. ⌜ Laid (each particleBytes (partAfter (editOf edit) holder n (particlesOf (now (part .entry))))) (now (out .entry)) at r (now (out .exit)) ⌝ }
 {
     let next = put_head(part, edit, holder.start, n, out, at);
-    put_tail(past(part, n), edit, holder.depth, out, next)
+    put_tail(
+        layout::particles_from(part, n),
+        edit,
+        holder.depth,
+        out,
+        next,
+    )
 }
 
 /// Writes all particles of a form, those of one definition (k of them,
@@ -259,5 +257,5 @@ pub fn put_particles(
     let next = codec::put(layout::window(parts, 0, PARTICLE_SIZE * first), out, at);
     let own = layout::window(parts, PARTICLE_SIZE * first, PARTICLE_SIZE * k);
     let end = put_part(own, edit, holder, n, out, next);
-    codec::put(past(parts, first + k), out, end)
+    codec::put(layout::particles_from(parts, first + k), out, end)
 }

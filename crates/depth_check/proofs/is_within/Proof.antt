@@ -27,15 +27,15 @@ enum-told-3 c = search needs
 enum-known-edit : tie.Need-enum-known-edit
 enum-known-edit c = search needs
 
-past-requires : tie.Need-past-requires
-past-requires c κs =
+particles-from-requires : tie.Need-particles-from-requires
+particles-from-requires c κs =
     let start = c .before .before .before .before .before in
     start .pre .1
 
 moved-within-requires : tie.Need-moved-within-requires
 moved-within-requires c κs =
     let start = c .before .before .before .before .before .before in
-    ap (λ (s : Bytes). depthsWithin (particlesOf s)) (c .past .ensures) ∙ ap depthsWithin (particles-past (start .args .n) (start .args .part .now))
+    ap (λ (s : Bytes). depthsWithin (particlesOf s)) (c .particles-from .ensures) ∙ ap depthsWithin (particles-past (start .args .n) (start .args .part .now))
     ∙ within-drop (start .args .n) (particlesOf (start .args .part .now)) (start .pre .0)
 
 enum-told-4 : tie.Need-enum-told-4
@@ -66,7 +66,7 @@ returns-4 c =
     ap (λ (b : Bool). leb (start .args .holder .depth) 4 && b)
     (c .moved-within .ensures
     ∙ ap (λ (ys : Particles). depthsWithin (moved (shift true) (start .args .holder .depth) (at-edit .edit .given .0 .1 .0) ys))
-    (ap particlesOf (c .before .past .ensures) ∙ particles-past (start .args .n) (start .args .part .now)))
+    (ap particlesOf (c .before .particles-from .ensures) ∙ particles-past (start .args .n) (start .args .part .now)))
     ∙ grouped-within (start .args .holder) (start .args .n) (particlesOf (start .args .part .now)) (start .pre .0) _ _
     ∙ within-case (start .args .holder) (start .args .n) (particlesOf (start .args .part .now)) (at-edit .edit .given .1)
 
@@ -84,7 +84,7 @@ is-within-spec =
     enum-told-2
     enum-told-3
     enum-known-edit
-    past-requires
+    particles-from-requires
     moved-within-requires
     enum-told-4
     returns

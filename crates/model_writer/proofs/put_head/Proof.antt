@@ -47,8 +47,8 @@ put-requires-2 c κs = search needs
 window-requires-3 : tie.Need-window-requires-3
 window-requires-3 c κs = search needs
 
-past-requires : tie.Need-past-requires
-past-requires c κs =
+particles-from-requires : tie.Need-particles-from-requires
+particles-from-requires c κs =
     let start = c .before .before .before .before .before .before .before .before .before in
     omega (arith, start .pre .inside, start .pre .room)
 
@@ -59,7 +59,7 @@ put-recounted-requires c κs =
     let at-window2 = at-put2 .before .before in
     let start = at-window2 .before .before .before .before in
     let v = start .pre in
-    let w = head-fits v (omega arith) (at-window3 .window3 .ensures) (c .before .past .ensures) in (
+    let w = head-fits v (omega arith) (at-window3 .window3 .ensures) (c .before .particles-from .ensures) in (
       w .0,
       w .1,
       omega (
@@ -109,15 +109,15 @@ returns-2 c =
     let at-put3 = c .before .before in
     let at-window4 = at-put3 .before .before in
     let at-put-recounted = at-window4 .before .before .before in
-    let at-past = at-put-recounted .before .before in
-    let at-window3 = at-past .before in
+    let at-particles-from = at-put-recounted .before .before in
+    let at-window3 = at-particles-from .before in
     let at-put2 = at-window3 .before .before .before in
     let at-window2 = at-put2 .before .before in
     let start = at-window2 .before .before .before .before in
     let v = start .pre in
     laid-as (head-split v (omega arith))
     (laid-then (laid-as (sym (at-window2 .window2 .ensures)) (at-put2 .put2 .ensures))
-    (laid-then (laid-as (head-group v (omega arith) (at-window3 .window3 .ensures) (at-past .past .ensures)) (at-put-recounted .put-recounted .ensures))
+    (laid-then (laid-as (head-group v (omega arith) (at-window3 .window3 .ensures) (at-particles-from .particles-from .ensures)) (at-put-recounted .put-recounted .ensures))
     (laid-as (sym (at-window4 .window4 .ensures)) (at-put3 .put3 .ensures))))
 
 pub put-head-spec : {M : Type 1} → statement M
@@ -134,7 +134,7 @@ put-head-spec =
     window-requires-2
     put-requires-2
     window-requires-3
-    past-requires
+    particles-from-requires
     put-recounted-requires
     add-window
     mul-window-2

@@ -13,8 +13,8 @@ put-head-requires c κs =
     let start = c .before .before .before in
     part-head (start .pre .0) (start .pre .1)
 
-past-requires : tie.Need-past-requires
-past-requires c κs =
+particles-from-requires : tie.Need-particles-from-requires
+particles-from-requires c κs =
     let start = c .before .before .before .before .before .before in
     omega (arith, start .pre .0 .inside, start .pre .1)
 
@@ -22,7 +22,7 @@ put-tail-requires : tie.Need-put-tail-requires
 put-tail-requires c κs =
     let at-put-head = c .before .before .before .before in
     let start = at-put-head .before .before .before .before in
-    rw (c .before .past .ensures) (part-tail (start .pre .0) (start .pre .1) (at-put-head .put-head .ensures))
+    rw (c .before .particles-from .ensures) (part-tail (start .pre .0) (start .pre .1) (at-put-head .put-head .ensures))
 
 same-length : tie.Need-same-length
 same-length c = search needs
@@ -30,11 +30,11 @@ same-length c = search needs
 returns : tie.Need-returns
 returns c =
     let at-put-tail = c .before .before in
-    let at-past = at-put-tail .before .before in
-    let at-put-head = at-past .before .before .before in
+    let at-particles-from = at-put-tail .before .before in
+    let at-put-head = at-particles-from .before .before .before in
     let start = at-put-head .before .before .before .before in
-    laid-as (part-bytes (start .pre .0)) (laid-then (at-put-head .put-head .ensures) (rw (at-past .past .ensures) at (at-put-tail .put-tail .ensures)))
+    laid-as (part-bytes (start .pre .0)) (laid-then (at-put-head .put-head .ensures) (rw (at-particles-from .particles-from .ensures) at (at-put-tail .put-tail .ensures)))
 
 pub put-part-spec : {M : Type 1} → statement M
 put-part-spec =
-    tie.close (tie.spec put-head-requires past-requires put-tail-requires same-length returns)
+    tie.close (tie.spec put-head-requires particles-from-requires put-tail-requires same-length returns)

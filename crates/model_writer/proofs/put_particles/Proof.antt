@@ -47,11 +47,11 @@ put-part-requires c κs =
       ),
     )
 
-add-past : tie.Need-add-past
-add-past c = search needs
+add-particles-from : tie.Need-add-particles-from
+add-particles-from c = search needs
 
-past-requires : tie.Need-past-requires
-past-requires c κs = search needs
+particles-from-requires : tie.Need-particles-from-requires
+particles-from-requires c κs = search needs
 
 put-requires-2 : tie.Need-put-requires-2
 put-requires-2 c κs =
@@ -68,7 +68,7 @@ put-requires-2 c κs =
       length-few (body-part (start .pre .0) (at-window2 .window2 .ensures)),
       length-cut (start .args .parts .now) _ 0 (particleSize * start .args .first) (at-window .window .ensures),
       length-cut (start .args .parts .now) _ (particleSize * start .args .first) (particleSize * start .args .k) (at-window2 .window2 .ensures),
-      ap (λ (s : Bytes). length s) (c .before .past .ensures),
+      ap (λ (s : Bytes). length s) (c .before .particles-from .ensures),
       length-drop (particleSize * (start .args .first + start .args .k)) (start .args .parts .now),
     )
 
@@ -78,15 +78,15 @@ same-length c = search needs
 returns : tie.Need-returns
 returns c =
     let at-put2 = c .before .before in
-    let at-past = at-put2 .before .before in
-    let at-put-part = at-past .before .before .before in
+    let at-particles-from = at-put2 .before .before in
+    let at-put-part = at-particles-from .before .before .before in
     let at-window2 = at-put-part .before .before in
     let at-put = at-window2 .before .before .before in
     let at-window = at-put .before .before in
     let start = at-window .before .before .before in
     laid-as (body-bytes (start .pre .0))
     (laid-then (laid-as (sym (at-window .window .ensures)) (at-put .put .ensures))
-    (laid-then (rw (at-window2 .window2 .ensures) at (at-put-part .put-part .ensures)) (laid-as (sym (at-past .past .ensures)) (at-put2 .put2 .ensures))))
+    (laid-then (rw (at-window2 .window2 .ensures) at (at-put-part .put-part .ensures)) (laid-as (sym (at-particles-from .particles-from .ensures)) (at-put2 .put2 .ensures))))
 
 pub put-particles-spec : {M : Type 1} → statement M
 put-particles-spec =
@@ -99,8 +99,8 @@ put-particles-spec =
     mul-window-3
     window-requires-2
     put-part-requires
-    add-past
-    past-requires
+    add-particles-from
+    particles-from-requires
     put-requires-2
     same-length
     returns)

@@ -41,14 +41,14 @@ put-particle-requires c κs =
     let start = c .before .before .before .before .before .before .before .before in
     omega (arith, start .pre .room)
 
-past-requires : tie.Need-past-requires
-past-requires c κs = search needs
+particles-from-requires : tie.Need-particles-from-requires
+particles-from-requires c κs = search needs
 
 put-requires : tie.Need-put-requires
 put-requires c κs =
     let at-put-particle = c .before .before .before .before in
     let start = at-put-particle .before .before .before .before .before .before .before .before .before in
-    omega (arith, start .pre .room, at-put-particle .put-particle .ensures .next, ap (λ (s : Bytes). length s) (c .before .past .ensures), length-drop particleSize (start .args .ys .now))
+    omega (arith, start .pre .room, at-put-particle .put-particle .ensures .next, ap (λ (s : Bytes). length s) (c .before .particles-from .ensures), length-drop particleSize (start .args .ys .now))
 
 same-length : tie.Need-same-length
 same-length c = search needs
@@ -56,8 +56,8 @@ same-length c = search needs
 returns-2 : tie.Need-returns-2
 returns-2 c =
     let at-put = c .before .before in
-    let at-past = at-put .before .before in
-    let at-put-particle = at-past .before .before .before in
+    let at-particles-from = at-put .before .before in
+    let at-put-particle = at-particles-from .before .before .before in
     let at-particle-depth = at-put-particle .before .before in
     let at-particle-index = at-particle-depth .before in
     let at-particle-sort = at-particle-index .before in
@@ -69,7 +69,7 @@ returns-2 c =
     (particle-same (at-particle-sort .particle-sort .ensures) (at-quantifier-code .quantifier-code .ensures) (at-particle-index .particle-index .ensures)
     (at-particle-depth .particle-depth .ensures))
     (at-put-particle .put-particle .ensures))
-    (laid-as (sym (at-past .past .ensures)) (at-put .put .ensures)))
+    (laid-as (sym (at-particles-from .particles-from .ensures)) (at-put .put .ensures)))
 
 pub put-requantified-spec : {M : Type 1} → statement M
 put-requantified-spec =
@@ -82,7 +82,7 @@ put-requantified-spec =
     particle-index-requires
     particle-depth-requires
     put-particle-requires
-    past-requires
+    particles-from-requires
     put-requires
     same-length
     returns-2)

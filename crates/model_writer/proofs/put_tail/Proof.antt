@@ -24,13 +24,13 @@ put-inserted-requires c κs =
 enum-told : tie.Need-enum-told
 enum-told c = search needs
 
-past-requires : tie.Need-past-requires
-past-requires c κs = search needs
+particles-from-requires : tie.Need-particles-from-requires
+particles-from-requires c κs = search needs
 
 put-requires : tie.Need-put-requires
 put-requires c κs =
     let start = c .before .before .before .before .before .before in
-    omega (arith, start .pre .room, ap (λ (s : Bytes). length s) (c .before .past .ensures), length-drop particleSize (start .args .ys .now))
+    omega (arith, start .pre .room, ap (λ (s : Bytes). length s) (c .before .particles-from .ensures), length-drop particleSize (start .args .ys .now))
 
 enum-known-edit-2 : tie.Need-enum-known-edit-2
 enum-known-edit-2 c = search needs
@@ -53,15 +53,15 @@ put-grouped-requires c κs =
 enum-told-2 : tie.Need-enum-told-2
 enum-told-2 c = search needs
 
-past-requires-2 : tie.Need-past-requires-2
-past-requires-2 c κs = search needs
+particles-from-requires-2 : tie.Need-particles-from-requires-2
+particles-from-requires-2 c κs = search needs
 
 put-moved-requires : tie.Need-put-moved-requires
 put-moved-requires c κs =
     let at-enum-told2 = c .before .before in
     let start = at-enum-told2 .before .before .before .before in
     let v = tail-as (at-enum-told2 .enum-told2 .given .1) (start .pre) in
-    rw (c .before .past2 .ensures) (flattened-whole v, flattened-room v, flattened-fits v)
+    rw (c .before .particles-from2 .ensures) (flattened-whole v, flattened-room v, flattened-fits v)
 
 same-length : tie.Need-same-length
 same-length c = search needs
@@ -79,11 +79,11 @@ same-length-2 c = search needs
 returns-2 : tie.Need-returns-2
 returns-2 c =
     let at-put = c .before .before in
-    let at-past = at-put .before .before in
-    let at-enum-told = at-past .before in
+    let at-particles-from = at-put .before .before in
+    let at-enum-told = at-particles-from .before in
     let start = at-enum-told .before .before .before .before in
     let e = at-enum-told .enum-told .given .1 in
-    laid-as ((tail-bytes _ (start .args .ys .now) (e)) ∙ removed-bytes (tail-as e (start .pre)) ∙ sym (at-past .past .ensures)) (at-put .put .ensures)
+    laid-as ((tail-bytes _ (start .args .ys .now) (e)) ∙ removed-bytes (tail-as e (start .pre)) ∙ sym (at-particles-from .particles-from .ensures)) (at-put .put .ensures)
 
 same-length-3 : tie.Need-same-length-3
 same-length-3 c = search needs
@@ -111,11 +111,11 @@ same-length-5 c = search needs
 returns-5 : tie.Need-returns-5
 returns-5 c =
     let at-put-moved = c .before .before in
-    let at-past2 = at-put-moved .before .before in
-    let at-enum-told2 = at-past2 .before in
+    let at-particles-from2 = at-put-moved .before .before in
+    let at-enum-told2 = at-particles-from2 .before in
     let start = at-enum-told2 .before .before .before .before in
     let e = at-enum-told2 .enum-told2 .given .1 in
-    laid-as ((tail-bytes _ (start .args .ys .now) (e)) ∙ flattened-bytes (tail-as e (start .pre))) (rw (at-past2 .past2 .ensures) at (at-put-moved .put-moved .ensures))
+    laid-as ((tail-bytes _ (start .args .ys .now) (e)) ∙ flattened-bytes (tail-as e (start .pre))) (rw (at-particles-from2 .particles-from2 .ensures) at (at-put-moved .put-moved .ensures))
 
 pub put-tail-spec : {M : Type 1} → statement M
 put-tail-spec =
@@ -124,14 +124,14 @@ put-tail-spec =
     enum-known-edit
     put-inserted-requires
     enum-told
-    past-requires
+    particles-from-requires
     put-requires
     enum-known-edit-2
     put-requantified-requires
     enum-known-edit-3
     put-grouped-requires
     enum-told-2
-    past-requires-2
+    particles-from-requires-2
     put-moved-requires
     same-length
     returns

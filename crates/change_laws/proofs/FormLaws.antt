@@ -15,7 +15,7 @@ use Rattle.rules.specs.WellFormed.{definitionName, lookup, isThere, known}
 use Rattle.rules.specs.Change.{definitionAt, nameAtIndex, Owned, entryAt, attributeAt, update, without}
 use Rattle.rules.proofs.Apart.{differs}
 use Rattle.rules.proofs.Height.{known-found}
-use Rattle.rules.proofs.WellFormedLaws.{lookup-member, lookup-distinct, lookup-here, lookup-there}
+use Rattle.rules.proofs.WellFormedLaws.{lookup-member, lookup-distinct, lookup-here, lookup-there, definition-stands}
 
 -- a name is that name or not
 pub same-or : (n m : Bytes) → (n ≡ m) ⊎ (n ≡ m → ⊥)
@@ -50,13 +50,8 @@ known-named n form = (to, from form)
         ⊎-elim (λ e. ap isThere (lookup-here n d more e)) (λ f. ap isThere (lookup-there n d more f) ∙ ⊎-elim (λ e. absurd (f e)) (from more) (List·Memᴰ·cases-cons m)) (same-or n (d .name))
 
 -- ---- definitions by index
-pub definition-at : (i : ℕ) (form : Form) → i < length form → List·Memᴰ (definitionAt i form) form
-definition-at i [] l = absurd (omega arith)
-definition-at zero (d ∷ form) l = List·Memᴰ·head refl
-definition-at (suc i) (d ∷ form) l = List·Memᴰ·tail (definition-at i form (omega arith))
-
 pub definition-found : (i : ℕ) (form : Form) → Distinct (map definitionName form) → i < length form → lookup (nameAtIndex i form) form ≡ some (definitionAt i form)
-definition-found i form u l = lookup-distinct form u (definitionAt i form) (definition-at i form l)
+definition-found i form u l = lookup-distinct form u (definitionAt i form) (definition-stands form i l)
 
 -- a definition stands at the index of its name
 pub index-found : (n : Bytes) (form : Form) (d : Definition) → lookup n form ≡ some d → (indexOf n form < length form) × (definitionAt (indexOf n form) form ≡ d)
@@ -125,7 +120,7 @@ module _ (u : Definition → Definition) (keeps : (d : Definition) → u d .name
   update-this i [] once l = absurd (omega arith)
   update-this zero (d ∷ form) once l = lookup-here (d .name) (u d) form (sym (keeps d))
   update-this (suc i) (d ∷ form) (new, once) l =
-      lookup-there (nameAtIndex i form) d (update i u form) (λ e. new (Memᴰ·cast (sym e) (Memᴰ·map definitionName (definition-at i form (omega arith)))))
+      lookup-there (nameAtIndex i form) d (update i u form) (λ e. new (Memᴰ·cast (sym e) (Memᴰ·map definitionName (definition-stands form i (omega arith)))))
       ∙ update-this i form once (omega arith)
 
   pub update-known : (i : ℕ) (form : Form) (n : Bytes) → known form n ≡ true → known (update i u form) n ≡ true
@@ -158,5 +153,5 @@ pub without-this : (i : ℕ) (form : Form) → Distinct (map definitionName form
 without-this i [] once l = refl
 without-this zero (d ∷ form) (new, once) l = lookup-missing (d .name) form new
 without-this (suc i) (d ∷ form) (new, once) l =
-    lookup-there (nameAtIndex i form) d (without i form) (λ e. new (Memᴰ·cast (sym e) (Memᴰ·map definitionName (definition-at i form (omega arith)))))
+    lookup-there (nameAtIndex i form) d (without i form) (λ e. new (Memᴰ·cast (sym e) (Memᴰ·map definitionName (definition-stands form i (omega arith)))))
     ∙ without-this i form once (omega arith)

@@ -1,12 +1,12 @@
 -- The content model that a part of the particle body holds, over definition indices.
-use Prim.Native.Nat.{ℕ, zero, suc, _/_}
-use mathlib.Core.List.{List}
+use Prim.Native.Nat.{ℕ, zero, suc, _+_, _/_}
+use mathlib.Core.List.{List, [], _∷_}
 use lib.ListN.{length}
 use Rattle.rules.specs.Bytes.{Bytes}
 use Rattle.rules.specs.Model.{Members, done, el, group}
 use Rattle.rules.specs.Store.{Forest, bare, tree}
 use Rattle.rules.specs.Preorder.{Deep, build}
-use Rattle.rules.specs.Layout.{particleSize, FlatParticle}
+use Rattle.rules.specs.Layout.{particleSize, FlatDefinition, FlatParticle}
 use Rattle.rules.specs.Decode.{quantifierOf, groupOf, readParticle, readMany}
 
 -- as `memberOf` and `readMembers` of the rules, with the index for the name
@@ -28,3 +28,9 @@ membersFrom d s = indexMembers (build (particlesOf s) d)
 
 abbrev pub allMembers : Bytes → Members ℕ
 allMembers s = membersFrom 0 s
+
+-- how many particles stand before those of definition o
+abbrev pub startOf : ℕ → List FlatDefinition → ℕ
+startOf o [] = 0
+startOf zero (d ∷ ds) = 0
+startOf (suc o) (d ∷ ds) = d .particles + startOf o ds

@@ -21,11 +21,11 @@ use Rattle.rules.proofs.BooleanLaws.{Every}
 use Rattle.rules.proofs.LayoutLaws.{SmallParticle}
 use Rattle.model.specs.declared.place.Holder.{Holder}
 use Rattle.model.specs.declared.place.Found.the-variants.{At}
-use Rattle.model.specs.Members.{particlesOf}
+use Rattle.model.specs.Members.{particlesOf, startOf}
 use Rattle.model.specs.Places.{Particles, placeIn}
 use Rattle.layout.specs.Bodies.{particlesIn}
 use Rattle.lookup.specs.Bodies.{bodiesOf}
-use Rattle.model_writer.specs.Spliced.{startOf, countOf, splicedForm}
+use Rattle.model_writer.specs.Spliced.{countOf, splicedForm}
 use Rattle.model_writer.specs.PartAfter.{suits, renameEdit, inserts, partAfter, lengthAfter}
 use Rattle.model_writer.specs.Writing.{EditPart}
 use Rattle.model_writer.specs.Writing as writing

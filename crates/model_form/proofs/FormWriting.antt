@@ -21,7 +21,7 @@ use Rattle.codec.specs.Laid.{Laid}
 use Rattle.codec.proofs.Writers.{laid-then, laid-as}
 use Rattle.codec.proofs.Strings.{part-there}
 use Rattle.model.specs.declared.place.Holder.{Holder}
-use Rattle.model.specs.Members.{particlesOf}
+use Rattle.model.specs.Members.{particlesOf, startOf}
 use Rattle.model.specs.Places.{Particles}
 use Rattle.model.proofs.ParticleLaws.{particles-part}
 use Rattle.form_index.specs.Reading.{definitionIn, particlesBefore}
@@ -29,7 +29,7 @@ use Rattle.layout.specs.Bodies.{widthOf, Number, definitionsIn, particlesIn, at
 use Rattle.layout.proofs.LayoutLaws.{width-within}
 use Rattle.layout.proofs.HeaderLaws.{attributes-short, definition-table-short}
 use Rattle.lookup.specs.Bodies.{bodiesOf}
-use Rattle.model_writer.specs.Spliced.{startOf, countOf, counted, spliced, splicedForm}
+use Rattle.model_writer.specs.Spliced.{countOf, counted, spliced, splicedForm}
 use Rattle.model_writer.specs.PartAfter.{partAfter, lengthAfter}
 use Rattle.layout.specs.RecordBytes.{countedBytes}
 use Rattle.model_writer.specs.Writing.{EditPart, depthsWithin}

@@ -10,16 +10,16 @@ use Rattle.rules.specs.Layout.{particleSize, FlatDefinition, FlatStore, definit
 use Rattle.rules.specs.Decode.{readMany, readDefinition, readParticle, definitionCount, particleCount}
 use Rattle.rules.specs.Passing.{passes}
 use Rattle.codec.proofs.Records.{many-at}
-use Rattle.model.specs.Members.{particlesOf}
+use Rattle.model.specs.Members.{particlesOf, startOf}
 use Rattle.form_check.specs.Bodies.{definitions, particlesRead}
 use Rattle.form_index.specs.Reading.{particlesBefore, modelPart}
 use Rattle.store_check.specs.Reading.{noFlatDefinition}
 use Rattle.layout.specs.Bodies.{definitionsIn, particlesIn}
-use Rattle.store_check.proofs.Parts.{before, before-is}
+use Rattle.store_check.proofs.Parts.{before-is}
 use Rattle.store_check.proofs.StringChecks.{Headed, laid-in, same-definitions, same-particles}
 use Rattle.store_check.proofs.StoreFacts.{headed-of}
 use Rattle.lookup.specs.Bodies.{bodiesOf}
-use Rattle.model_writer.specs.Spliced.{startOf, countOf}
+use Rattle.model_writer.specs.Spliced.{countOf}
 use Rattle.model_writer.specs.Writing as writing
 use Rattle.model_writer.proofs.WritingLaws.{whole}
 use Rattle.store_laws.specs.Stores.{storeIn}
@@ -32,11 +32,6 @@ use Rattle.model_writer.proofs.EditedStore.{own-inside as within-all}
 pub own-length : (bs : Bytes) (o : ℕ) → length (partIn bs o) ≤ particleSize * modelLength bs o
 unfolding modelPart
 own-length bs o = omega (arith, length-take (particleSize * modelLength bs o) (drop (particleSize * startIn bs o) (particlesIn bs)))
-
-start-before : (o : ℕ) (ds : List FlatDefinition) → before o ds ≡ startOf o ds
-start-before o [] = refl
-start-before zero (d ∷ ds) = refl
-start-before (suc o) (d ∷ ds) = ap (λ (k : ℕ). d .particles + k) (start-before o ds)
 
 count-at : (o : ℕ) (ds : List FlatDefinition) → getD ds o noFlatDefinition .particles ≡ countOf o ds
 count-at o [] = refl
@@ -66,7 +61,6 @@ module _ (bs : Bytes) (q : passes bs ≡ true) where
   unfolding particlesBefore
   start-is i l =
       before-is (particlesBefore (definitionsIn bs)) (λ i. modelLength bs i) (definitionCount bs) (bodiesOf bs .definitions) refl (λ i. refl) definition-is i l
-      ∙ start-before i (bodiesOf bs .definitions)
 
   pub count-is : (i : ℕ) → i < definitionCount bs → modelLength bs i ≡ countOf i (bodiesOf bs .definitions)
   count-is i l = definition-is i l ∙ count-at i (bodiesOf bs .definitions)

@@ -13,7 +13,7 @@ use Rattle.rules.specs.Decode.{readParticle, readMany, readMembers, unflat, def
 use Rattle.rules.specs.Change.{definitionAt}
 use Rattle.rules.specs.Passing.{passes}
 use Rattle.codec.proofs.Strings.{part-there}
-use Rattle.model.specs.Members.{particlesOf}
+use Rattle.model.specs.Members.{particlesOf, startOf}
 use Rattle.model.specs.Places.{Particles}
 use Rattle.model.specs.Positions.{spread}
 use Rattle.model.proofs.ParticleLaws.{particles-part}
@@ -26,7 +26,7 @@ use Rattle.store_check.specs.Check.{FormPasses}
 use Rattle.store_check.proofs.IndexLaws.{namesOf}
 use Rattle.store_check.proofs.ModelReads.{ModelRead}
 use Rattle.store_check.proofs.FormReads.{form-size, form-apart, model-at, members-at}
-use Rattle.store_check.proofs.Parts.{before, part-cut}
+use Rattle.store_check.proofs.Parts.{part-cut}
 use Rattle.store_check.proofs.FormLaws.{Laid, fields-fit}
 use Rattle.store_check.proofs.IndexReads.{definition-in, before-in, room-in, index-agrees}
 use Rattle.store_check.proofs.StringChecks.{Headed, laid-in, passes-in, same-form}
@@ -50,7 +50,7 @@ module _ {w n : ℕ} {defs : Bytes} {p : ℕ} {parts : Bytes} {a : ℕ} {attrs :
   unfolding modelPart
   part-particles i l =
       let k : ℕ = getD (definitions n defs) i noFlatDefinition .particles in
-      let b : ℕ = before i (definitions n defs) in
+      let b : ℕ = startOf i (definitions n defs) in
       let fit : particleSize * b + particleSize * k ≤ length parts = omega (arith, room-in laid x i l, laid .bodies .particleBody .whole) in
       ap₂ (λ (u v : ℕ). particlesOf (take (particleSize * u) (drop (particleSize * v) parts)))
       (ap (λ (d : FlatDefinition). d .particles) (definition-in laid x i l)) (before-in laid x i (omega arith))

@@ -21,12 +21,12 @@ use Rattle.change_laws.proofs.ModelAfter.{place-right}
 use Rattle.rules.proofs.RenamingPlaces.{plug-rename}
 use Rattle.model.specs.declared.place.Holder.{Holder}
 use Rattle.model.specs.declared.place.Found.the-variants.{At}
-use Rattle.model.specs.Members.{particlesOf}
+use Rattle.model.specs.Members.{particlesOf, startOf}
 use Rattle.model.specs.Places.{Particles, top, placeIn}
 use Rattle.model.specs.Positions.{spread, count, offset, holder, leading, trailing, level}
 use Rattle.model.proofs.PositionLaws.{spread-named, spread-plug, length-leading, length-spread}
 use Rattle.model.proofs.WrittenLaws.{particles-written}
-use Rattle.model_writer.specs.Spliced.{startOf, countOf, splicedForm}
+use Rattle.model_writer.specs.Spliced.{countOf, splicedForm}
 use Rattle.model_writer.specs.PartAfter.{suits, renameEdit, inserts, partAfter, lengthAfter}
 use Rattle.model_writer.specs.Writing.{Fitting, particleRange, EditPart}
 use Rattle.model_writer.proofs.FormAfter.{reformed, form-after}

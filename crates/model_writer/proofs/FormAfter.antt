@@ -17,10 +17,11 @@ use Rattle.rules.specs.Layout.{FlatDefinition, FlatAttribute, indexOf, indexIn,
 use Rattle.rules.specs.Layout.{allParticles, ownAttributes, allAttributes, indexed, flat, quantifierCode, groupCode, kindCode, rowCode}
 use Rattle.rules.specs.Change.{definitionAt, update, inContent, inModel, editFound, editAt, editModel}
 use Rattle.change_laws.proofs.FormLaws.{index-kept}
+use Rattle.model.specs.Members.{startOf}
 use Rattle.model.specs.Places.{Particles}
 use Rattle.model.specs.Positions.{spread}
 use Rattle.model.proofs.PositionLaws.{spread-named}
-use Rattle.model_writer.specs.Spliced.{startOf, countOf, counted, spliced, splicedForm}
+use Rattle.model_writer.specs.Spliced.{countOf, counted, spliced, splicedForm}
 
 -- ---- attributes and their indices, whatever becomes of the model
 module _ (u : Members Bytes → Members Bytes) where

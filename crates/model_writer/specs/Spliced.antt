@@ -3,14 +3,10 @@ use Prim.Native.Nat.{ℕ, zero, suc, _+_}
 use mathlib.Core.List.{List, [], _∷_, _++_}
 use lib.ListN.{length, take, drop}
 use Rattle.rules.specs.Layout.{FlatDefinition, FlatStore}
+use Rattle.model.specs.Members.{startOf}
 use Rattle.model.specs.Places.{Particles}
 
--- how many particles stand before definition o's, and how many it has
-abbrev pub startOf : ℕ → List FlatDefinition → ℕ
-startOf o [] = 0
-startOf zero (d ∷ ds) = 0
-startOf (suc o) (d ∷ ds) = d .particles + startOf o ds
-
+-- how many particles definition o has
 abbrev pub countOf : ℕ → List FlatDefinition → ℕ
 countOf o [] = 0
 countOf zero (d ∷ ds) = d .particles

@@ -19,6 +19,7 @@ use Rattle.rules.specs.Place.{Context, beforePlace, afterPlace}
 use Rattle.rules.specs.Change.{definitionAt, nameAtIndex}
 use Rattle.rules.specs.Passing.{passes}
 use Rattle.rules.proofs.Apart.{names-plug}
+use Rattle.rules.proofs.WellFormedLaws.{definition-stands}
 use Rattle.rules.proofs.Correct.{distinct-apart}
 use Rattle.rules.proofs.TestLaws.{member-test}
 use Rattle.rules.proofs.RenamingPlaces.{names-rename, before-rename}
@@ -30,7 +31,7 @@ use Rattle.model.specs.Places.{Particles, top, spanOf}
 use Rattle.model.specs.Positions.{groupParticle, spread, count, leading, trailing, level}
 use Rattle.model.proofs.ParticleLaws.{length-particles, particles-drop, particles-take}
 use Rattle.model.proofs.PositionLaws.{length-spread, spread-plug, length-leading}
-use Rattle.store_check.proofs.IndexLaws.{namesOf, definition-in, index-same}
+use Rattle.store_check.proofs.IndexLaws.{namesOf, index-same}
 use Rattle.store_laws.specs.Stores.{storeIn}
 use Rattle.plans.specs.ModelCalls.{Marked}
 use Rattle.store_check.proofs.StoreFacts.{formIn, Whole, whole}
@@ -97,7 +98,7 @@ module _ {bs : Bytes} {o : ℕ} {i : Bool} {place : List ℕ} {h : Holder} {p : 
 
   apart : (n : Bytes) → List·Memᴰ n ns → List·Memᴰ n (names (x .found .picked)) → ⊥
   apart n a b =
-      let once : Distinct (names (modelIn bs o)) = held .good .form .definitions (definitionAt o (formIn bs)) (definition-in (formIn bs) o owner) .once in
+      let once : Distinct (names (modelIn bs o)) = held .good .form .definitions (definitionAt o (formIn bs)) (definition-stands (formIn bs) o owner) .once in
       distinct-apart ns (names (x .found .picked) ++ afterPlace (x .found .context)) (subst (λ (l : List Bytes). Distinct l) model-names once) n a (Memᴰ·append-left (afterPlace (x .found .context)) b)
 
   -- THE MARKS at a place whose members begin with `one`: the n particles of `one` come next, of depth d

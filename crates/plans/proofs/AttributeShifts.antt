@@ -15,7 +15,8 @@ use Rattle.rules.specs.Layout.{indexIn, attributeIndex}
 use Rattle.rules.specs.WellFormed.{definitionName, attributeName, lookup}
 use Rattle.rules.specs.Change.{definitionAt, nameAtIndex, update, withAttributes, lacking}
 use Rattle.rules.proofs.Apart.{differs}
-use Rattle.change_laws.proofs.FormLaws.{definition-at, definition-found}
+use Rattle.rules.proofs.WellFormedLaws.{definition-stands}
+use Rattle.change_laws.proofs.FormLaws.{definition-found}
 use Rattle.store_check.proofs.IndexLaws.{name-of}
 use Rattle.store_check.proofs.AttributeBlocks.{offset, owner-index}
 use Rattle.row_walk.specs.declared.Shift.{Shift}
@@ -128,7 +129,7 @@ module _ (e : List Attribute → List Attribute) where
   spot-own i [] u l x = absurd (omega arith)
   spot-own zero (c ∷ form) u l x = rw (same-refl (c .name), attributeIndex) (omega arith)
   spot-own (suc i) (c ∷ form) (out, u) l x =
-      rw (differs bytes (nameAtIndex i form) (c .name) (λ q. out (Memᴰ·cast (sym q) (Memᴰ·map definitionName (definition-at i form (omega arith))))), attributeIndex)
+      rw (differs bytes (nameAtIndex i form) (c .name) (λ q. out (Memᴰ·cast (sym q) (Memᴰ·map definitionName (definition-stands form i (omega arith))))), attributeIndex)
       (omega (arith, spot-own i form u (omega arith) x))
 
 -- ---- indices moved

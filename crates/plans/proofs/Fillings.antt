@@ -20,12 +20,13 @@ use Rattle.rules.specs.Passing.{good}
 use Rattle.rules.specs.Change.{definitionAt, nameAtIndex}
 use Rattle.rules.specs.Filling.{createdValue, attributeRow, fillAttributes, fillEach, fillContent, fillWithin, fillDefinition}
 use Rattle.rules.proofs.DecodeLaws.{unflat-flat, good-known, good-found, sort-code}
+use Rattle.rules.proofs.WellFormedLaws.{definition-stands}
 use Rattle.rules.proofs.PassingLaws.{good-is}
 use Rattle.rules.proofs.RenamingPlaces.{filling-rename}
 use Rattle.rules.proofs.FillingLaws.{fillBelow, fill-known, in-filling}
 use Rattle.form_index.specs.Indices.{IndexForm}
 use Rattle.store_check.specs.Reading.{entryOf, flatIndexForm, Agrees}
-use Rattle.store_check.proofs.IndexLaws.{namesOf, index-name, lookup-at, name-of, definition-in}
+use Rattle.store_check.proofs.IndexLaws.{namesOf, index-name, lookup-at, name-of}
 use Rattle.store_check.proofs.AttributeBlocks.{offset, Block, block-at}
 use Rattle.store_check.proofs.FormGood.{form-agrees, good-bodies, good-fields}
 use Rattle.filling.specs.declared.Filling.the-variants.{Definition}
@@ -207,7 +208,7 @@ module _ (version w : ℕ) (form : Form) (ok : WellFormed w form) (F : IndexForm
       (append-nil (flatten (suc d) (indexed form n (fillBelow version h form txt (definitionAt i form))))
       ∙ attributes-index (suc d) i (offset i form) (definitionAt i form .attributes)
       (fillContent (λ m. fillWithin version h form txt m) txt (definitionAt i form .content))
-      (block-at version F form agrees (ok .names) i l (ok .definitions (definitionAt i form) (definition-in form i l) .attributeNames))
+      (block-at version F form agrees (ok .names) i l (ok .definitions (definitionAt i form) (definition-stands form i l) .attributeNames))
       ∙ ap₂ (λ (u v : List (Deep FlatRow)). u ++ v) (sym (required-index (suc d) i l))
       (content-index (suc d) i l n (λ m. fillWithin version h form txt m) (λ k. fillIndex F value h txt (suc d) k) (λ k m. named-index h (suc d) k n m)))
     where

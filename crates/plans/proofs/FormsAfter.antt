@@ -13,8 +13,9 @@ use Rattle.rules.specs.WellFormed.{isName, isValue, withinCeilings}
 use Rattle.rules.proofs.BooleanLaws.{Every, every-append, every-take, every-drop}
 use Rattle.rules.proofs.LayoutLaws.{GoodFlatDefinition, GoodFlatAttribute, GoodFlat}
 use Rattle.rules.proofs.DecodeLaws.{name-width, value-width}
+use Rattle.model.specs.Members.{startOf}
 use Rattle.model.specs.Places.{Particles}
-use Rattle.model_writer.specs.Spliced.{startOf, countOf, counted, spliced, splicedForm}
+use Rattle.model_writer.specs.Spliced.{countOf, counted, spliced, splicedForm}
 use Rattle.store_laws.specs.Forms.{formBytes, bareForm}
 use Rattle.store_laws.proofs.FormBytesLaws.{Few, few-of, few-particles, few-attributes}
 use Rattle.store_laws.proofs.FormLaws.{FormOf}

@@ -19,12 +19,11 @@ use Rattle.rules.specs.Change.{definitionAt}
 use Rattle.rules.proofs.RenamingPlaces.{plug-rename}
 use Rattle.change_laws.proofs.ModelAfter.{place-right}
 use Rattle.change_laws.proofs.EditConditions.{complex-content, picked-complex}
-use Rattle.model.specs.Members.{indexMembers}
+use Rattle.model.specs.Members.{indexMembers, startOf}
 use Rattle.model.specs.Places.{Particles}
 use Rattle.model.specs.Positions.{spread, offset, leading, trailing, level}
 use Rattle.model.proofs.PositionLaws.{spread-named, spread-plug, length-leading}
 use Rattle.model.proofs.SpreadLaws.{Shallow, shallow-spread, spread-read}
-use Rattle.model_writer.specs.Spliced.{startOf}
 use Rattle.planned_rows.specs.Planned.{membersAt}
 
 -- after a place nothing deeper than it comes

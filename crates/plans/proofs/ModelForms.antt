@@ -19,10 +19,11 @@ use Rattle.rules.specs.Passing.{good}
 use Rattle.rules.specs.Edit.{Edit, placeOf}
 use Rattle.rules.specs.Change.{definitionAt, nameAtIndex}
 use Rattle.rules.proofs.Apart.{names-plug}
+use Rattle.rules.proofs.WellFormedLaws.{definition-stands}
 use Rattle.rules.proofs.PassingLaws.{good-is}
 use Rattle.change_laws.proofs.Rowwise.{Standing}
 use Rattle.change_laws.proofs.ModelAfter.{place-right}
-use Rattle.store_check.proofs.IndexLaws.{Indexed, known-index, name-of, definition-in, element-test}
+use Rattle.store_check.proofs.IndexLaws.{Indexed, known-index, name-of, element-test}
 use Rattle.store_check.proofs.AttributeRows.{rowWritten}
 use Rattle.row_walk.specs.declared.Which.the-variants.{Elements}
 use Rattle.row_walk.specs.declared.Later.the-variants.{Unmarked}
@@ -53,7 +54,7 @@ names-around e p ms f at = sym (ap names (place-right e p ms f at)) ∙ names-pl
 pub picked-known : (s : Store) → good s ≡ true → (o : ℕ) → o < length (s .form) → (e : Edit Bytes) (p : List ℕ) (f : Found Bytes) → placeOf e p (members (definitionAt o (s .form))) ≡ some f
     → (n : Bytes) → List·Memᴰ n (names (f .picked)) → known (s .form) n ≡ true
 picked-known s g o l e p f at n m =
-    good-is s .0 g .form .definitions (definitionAt o (s .form)) (definition-in (s .form) o l) .inRange n
+    good-is s .0 g .form .definitions (definitionAt o (s .form)) (definition-stands (s .form) o l) .inRange n
     (subst (λ (ns : List Bytes). List·Memᴰ n ns) (sym (names-around e p (members (definitionAt o (s .form))) f at))
     (Memᴰ·append-right (beforePlace (f .context)) (Memᴰ·append-left (afterPlace (f .context)) m)))
 

@@ -26,12 +26,12 @@ use Rattle.rules.proofs.Grouping.{append-alike}
 use Rattle.rules.proofs.Correct.{distinct-left, distinct-right, distinct-apart}
 use Rattle.rules.proofs.Letters.{letters, member-in, member-out}
 use Rattle.rules.proofs.Spine.{split, names-append}
+use Rattle.rules.proofs.WellFormedLaws.{definition-stands}
 use Rattle.rules.proofs.PassingLaws.{good-is}
 use Rattle.change_laws.proofs.Rowwise.{Standing}
 use Rattle.change_laws.proofs.FormLaws.{definition-found}
 use Rattle.change_laws.proofs.ModelAfter.{place-right}
 use Rattle.change_laws.proofs.EditConditions.{complex-content, picked-complex}
-use Rattle.store_check.proofs.IndexLaws.{definition-in}
 use Rattle.plans.proofs.ModelForms.{every-standing}
 use Rattle.rules.proofs.ConformingLaws.{is-element}
 
@@ -158,7 +158,7 @@ module _ (s : Store) (g : good s ≡ true) (o : ℕ) (l : o < length (s .form)) 
       by (subst (λ (z : Definition). ElementRows (s .version) z (heads b)) own x)
     where
       once : Distinct (names (plug c (one ⊕ rest)))
-      once = subst (λ (z : Members Bytes). Distinct (names z)) (sym right) (good-is s .0 g .form .definitions d (definition-in (s .form) o l) .once)
+      once = subst (λ (z : Members Bytes). Distinct (names z)) (sym right) (good-is s .0 g .form .definitions d (definition-stands (s .form) o l) .once)
 
       by : ElementRows (s .version) d (heads b) → NoneAt (names one) (heads b) ⊎ FirstAt (beforePlace c) (names one) (heads b)
       by x =

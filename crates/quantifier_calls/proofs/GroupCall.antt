@@ -17,12 +17,12 @@ use Rattle.rules.specs.Change.{changeGroupQuantifier, formAfter}
 use Rattle.rules.specs.Refusal.{first, conditions}
 use Rattle.rules.specs.Outcome.{outcome, Answers}
 use Rattle.model.specs.declared.place.Holder.{Holder}
+use Rattle.model.specs.Members.{startOf}
 use Rattle.model.specs.Positions.{offset, level}
 use Rattle.lookup.specs.Bodies.{bodiesOf}
 use Rattle.filling.specs.declared.Filling.the-variants.{Particles}
 use Rattle.row_walk.specs.declared.Plan.{Plan}
 use Rattle.model_writer.specs.declared.Edit.the-variants.{Quantify}
-use Rattle.model_writer.specs.Spliced.{startOf}
 use Rattle.store_laws.specs.Stores.{storeIn}
 use Rattle.store_writer.specs.Writing.{limited}
 use Rattle.planned_rows.specs.Planned.{membersAt, plannedIn}

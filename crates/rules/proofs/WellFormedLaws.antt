@@ -1,16 +1,17 @@
 -- The test for well-formed decides it; what a well-formed form gives at a name.
-use Prim.Native.Nat.{ℕ}
+use Prim.Native.Nat.{ℕ, zero, suc, _<_}
 use mathlib.Core.Path.{_≡_, refl, sym, ap, _∙_}
 use mathlib.Core.Logic.{_⊎_, inl, inr, _↔_}
 use mathlib.Core.Bool.{true, not}
 use mathlib.Core.Option.{Option, none, some}
-use mathlib.Core.List.{[], _∷_, map, List·Memᴰ, List·Memᴰ·not-nil, List·Memᴰ·cases-cons, Memᴰ·cast, Memᴰ·map}
+use mathlib.Core.List.{[], _∷_, map, List·Memᴰ, List·Memᴰ·head, List·Memᴰ·tail, List·Memᴰ·not-nil, List·Memᴰ·cases-cons, Memᴰ·cast, Memᴰ·map}
 use lib.ListN.{length}
 use Rattle.rules.specs.Bytes.{Bytes, bytes, all}
 use Rattle.rules.specs.Model.{names, Distinct, distinct, full}
 use Rattle.rules.specs.Store.{Definition, Form, members}
 use Rattle.rules.specs.WellFormed.{definitionName, attributeName, lookup, known, namesIn, membersOf, Reaches, reachesIn, storedName, isAttributeOf}
 use Rattle.rules.specs.WellFormed.{GoodDefinition, WellFormed, goodDefinition, wellFormed, isValue}
+use Rattle.rules.specs.Change.{definitionAt}
 use Rattle.rules.proofs.Words.{and-both, and-split}
 use Rattle.rules.proofs.Apart.{differs}
 use Rattle.rules.proofs.Children.{Sound, sound}
@@ -79,6 +80,12 @@ lookup-distinct (c ∷ form) (n, u) d m = by (List·Memᴰ·cases-cons m) (looku
     by : (d ≡ c) ⊎ List·Memᴰ d form → (List·Memᴰ d form → lookup (d .name) form ≡ some d) → lookup (d .name) (c ∷ form) ≡ some d
     by (inl q) f = lookup-here (d .name) c form (ap definitionName q) ∙ ap (λ (z : Definition). some z) (sym q)
     by (inr i) f = lookup-there (d .name) c form (λ q. n (Memᴰ·cast (sym q) (Memᴰ·map definitionName i))) ∙ f i
+
+-- the definition with an index is one of the form
+pub definition-stands : (form : Form) (i : ℕ) → i < length form → List·Memᴰ (definitionAt i form) form
+definition-stands [] i h = absurd (omega arith)
+definition-stands (d ∷ ds) zero h = List·Memᴰ·head refl
+definition-stands (d ∷ ds) (suc i) h = List·Memᴰ·tail (definition-stands ds i (omega arith))
 
 module _ (w : ℕ) (form : Form) (ok : wellFormed w form ≡ true) where
   pub definition-good : (n : Bytes) (d : Definition) → lookup n form ≡ some d → GoodDefinition w form d

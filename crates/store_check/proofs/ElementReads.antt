@@ -26,12 +26,12 @@ use Rattle.rules.proofs.Correct.{accepts-conforms}
 use Rattle.rules.proofs.Renaming.{rename-accepts}
 use Rattle.rules.proofs.RenamingPlaces.{names-rename}
 use Rattle.rules.proofs.BooleanLaws.{Every, every-append, every-in}
-use Rattle.rules.proofs.WellFormedLaws.{well-formed}
+use Rattle.rules.proofs.WellFormedLaws.{well-formed, definition-stands}
 use Rattle.rules.proofs.ConformingLaws.{Cut, strip-is, content-head}
 use Rattle.rules.proofs.DecodeLaws.{attributeNames}
 use Rattle.form_index.specs.Indices.{IndexForm, indexOfRow, Sort, ContentOf, AttributeRowsOf, Below}
 use Rattle.store_check.specs.Reading.{Agrees}
-use Rattle.store_check.proofs.IndexLaws.{namesOf, name-once, definition-in, known-index, distinct-unmap}
+use Rattle.store_check.proofs.IndexLaws.{namesOf, name-once, known-index, distinct-unmap}
 use Rattle.store_check.proofs.AttributeBlocks.{Block, offset, block-at, block-first, block-found}
 use Rattle.store_check.proofs.AttributeRows.{rowRead, rowWritten, Taken, taken-of, owned-of, whole-of, strip-taken, taken-strip}
 
@@ -56,7 +56,7 @@ module _ {version : ℕ} (w : ℕ) (form : Form) (ok : wellFormed w form ≡ tru
   apart = well-formed w form .0 ok .names
 
   good-at : (i : ℕ) → i < length form → GoodDefinition w form (definitionAt i form)
-  good-at i l = well-formed w form .0 ok .definitions (definitionAt i form) (definition-in form i l)
+  good-at i l = well-formed w form .0 ok .definitions (definitionAt i form) (definition-stands form i l)
 
   pub same-names : (x y : ℕ) → x < length form → y < length form → same (nameAt x (namesOf form)) (nameAt y (namesOf form)) ≡ eqb x y
   same-names x y l m = by (eqb x y) refl

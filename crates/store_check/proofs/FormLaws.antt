@@ -23,7 +23,7 @@ use Rattle.rules.proofs.PreorderLaws.{rising}
 use Rattle.codec.proofs.Records.{many-at}
 use Rattle.records.specs.Records.{definitionFits, attributeFits, eachFits}
 use Rattle.records.proofs.RecordLaws.{FittingDefinition, definition-fields, FittingAttribute, attribute-fields, body-fields}
-use Rattle.model.specs.Members.{indexMembers}
+use Rattle.model.specs.Members.{indexMembers, startOf}
 use Rattle.form_check.specs.FormTests.{elementsIn, shaped, modelFits, modelsFit, bodiesFit}
 use Rattle.form_check.specs.Bodies.{Bodies, definitions, particlesRead, attributes, formOfBodies}
 use Rattle.form_check.proofs.Reading.{definitions-length, particles-length}
@@ -37,7 +37,7 @@ use Rattle.store_check.specs.Reading.{DefinitionFits, AttributeFits, Fie
 use Rattle.store_check.proofs.ModelReads.{Shaped, Single, Grouped, shaped-tree, ModelRead}
 use Rattle.store_check.proofs.FormReads.{bodies-of, form-size, form-apart, model-at}
 use Rattle.store_check.proofs.FormReads as reads
-use Rattle.store_check.proofs.Parts.{before, before-is, models-whole}
+use Rattle.store_check.proofs.Parts.{before-is, models-whole}
 
 -- ---- fields
 pub definition-told : (d : FlatDefinition) → FittingDefinition d → DefinitionFits d
@@ -117,8 +117,8 @@ module _ {w n : ℕ} {defs : Bytes} {p : ℕ} {parts : Bytes} {a : ℕ} {attrs :
       models = bodies-of (formOfBodies w n defs p parts a attrs) b .models
 
       -- the counts give the particles that are there
-      pub before-all : before n (definitions n defs) ≡ p
-      before-all = ap (λ (k : ℕ). before k (definitions n defs)) (sym (definitions-length n defs))
+      pub before-all : startOf n (definitions n defs) ≡ p
+      before-all = ap (λ (k : ℕ). startOf k (definitions n defs)) (sym (definitions-length n defs))
           ∙ models-whole (length (definitions n defs)) (definitions n defs) (particlesRead p parts) models ∙ particles-length p parts
 
       start-all : startAt defs n ≤ p

@@ -72,11 +72,6 @@ name-of [] i h = absurd (omega arith)
 name-of (d ∷ ds) zero h = refl
 name-of (d ∷ ds) (suc i) h = name-of ds i (omega arith)
 
-pub definition-in : (form : Form) (i : ℕ) → i < length form → List·Memᴰ (definitionAt i form) form
-definition-in [] i h = absurd (omega arith)
-definition-in (d ∷ ds) zero h = List·Memᴰ·head refl
-definition-in (d ∷ ds) (suc i) h = List·Memᴰ·tail (definition-in ds i (omega arith))
-
 -- a known name, by its index
 pub record Indexed (form : Form) (n : Bytes) : Type 0 where
   pub below : indexOf n form < length form

@@ -12,7 +12,7 @@ use Rattle.rules.specs.Decode.{nameAt, readDefinition, readParticle, readAttrib
 use Rattle.rules.specs.Conforming.{mustBePresent, allows}
 use Rattle.codec.proofs.Strings.{part-there}
 use Rattle.codec.proofs.Records.{many-at}
-use Rattle.model.specs.Members.{indexMembers, particlesOf, membersFrom, allMembers}
+use Rattle.model.specs.Members.{indexMembers, particlesOf, membersFrom, allMembers, startOf}
 use Rattle.form_check.specs.Bodies.{definitions, particlesRead, attributes, formOfBodies}
 use Rattle.form_check.proofs.Reading.{definitions-length, attributes-length, particles-part}
 use Rattle.form_index.specs.Reading.{definitionIn, attributeIn, particlesBefore, modelPart}
@@ -23,7 +23,7 @@ use Rattle.store_check.proofs.IndexLaws.{namesOf, distinct-unmap}
 use Rattle.store_check.proofs.ModelReads.{ModelRead, read-names}
 use Rattle.store_check.proofs.FormReads.{form-size, form-apart, model-at}
 use Rattle.store_check.proofs.FormGood.{form-agrees}
-use Rattle.store_check.proofs.Parts.{before, before-within, before-is, part-cut}
+use Rattle.store_check.proofs.Parts.{before-within, before-is, part-cut}
 use Rattle.store_check.proofs.FormLaws.{Laid, fields-fit, before-all}
 
 -- ---- models
@@ -60,23 +60,23 @@ module _ {w n : ℕ} {defs : Bytes} {p : ℕ} {parts : Bytes} {a : ℕ} {attrs :
   unfolding attributes
   attribute-in j l = sym (many-at readAttribute (attributeSize w) j a attrs noAttribute l)
 
-  pub before-in : (i : ℕ) → i ≤ n → particlesBefore defs i ≡ before i (definitions n defs)
+  pub before-in : (i : ℕ) → i ≤ n → particlesBefore defs i ≡ startOf i (definitions n defs)
   unfolding particlesBefore
   before-in = before-is (particlesBefore defs) (λ i. definitionIn defs i .particles) n (definitions n defs) refl (λ i. refl) (λ i l. ap (λ (d : FlatDefinition). d .particles) (definition-in i l))
 
-  pub room-in : (i : ℕ) → i < n → before i (definitions n defs) + getD (definitions n defs) i noFlatDefinition .particles ≤ p
+  pub room-in : (i : ℕ) → i < n → startOf i (definitions n defs) + getD (definitions n defs) i noFlatDefinition .particles ≤ p
   room-in i l =
-      let e : before (length (definitions n defs)) (definitions n defs) ≡ p =
-      ap (λ (k : ℕ). before k (definitions n defs)) (definitions-length n defs) ∙ before-all laid (x .definitions) (x .attributes) (x .bodies) in
+      let e : startOf (length (definitions n defs)) (definitions n defs) ≡ p =
+      ap (λ (k : ℕ). startOf k (definitions n defs)) (definitions-length n defs) ∙ before-all laid (x .definitions) (x .attributes) (x .bodies) in
       omega (arith, before-within i (definitions n defs) (omega (arith, definitions-length n defs)))
 
   pub model-in : (i : ℕ) → i < n → allMembers (modelPart defs parts i) ≡ indexMembers (build (partAt i (definitions n defs) (particlesRead p parts)) 0)
   unfolding modelPart
   model-in i l =
       let c : definitionIn defs i .particles ≡ getD (definitions n defs) i noFlatDefinition .particles = ap (λ (d : FlatDefinition). d .particles) (definition-in i l) in
-      let b : particlesBefore defs i ≡ before i (definitions n defs) = before-in i (omega arith) in
+      let b : particlesBefore defs i ≡ startOf i (definitions n defs) = before-in i (omega arith) in
       ap₂ (λ (k m : ℕ). allMembers (take (particleSize * k) (drop (particleSize * m) parts))) c b
-      ∙ part-members p parts (before i (definitions n defs)) (getD (definitions n defs) i noFlatDefinition .particles) (laid .bodies .particleBody .whole)
+      ∙ part-members p parts (startOf i (definitions n defs)) (getD (definitions n defs) i noFlatDefinition .particles) (laid .bodies .particleBody .whole)
       (room-in i l)
       ∙ ap (λ (ps : List (Deep FlatParticle)). indexMembers (build ps 0)) (sym (part-cut i (definitions n defs) (particlesRead p parts)))
 

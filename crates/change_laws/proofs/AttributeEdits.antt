@@ -17,9 +17,8 @@ use Rattle.rules.proofs.Words.{and-both, and-split}
 use Rattle.rules.proofs.Apart.{differs}
 use Rattle.rules.proofs.ConformingLaws.{headAttribute, begins, begins-none, begins-other, begins-this, strip-past, strip-take, none-some, is-attribute}
 use Rattle.change_laws.proofs.RowEdits.{keep, plantRows}
-use Rattle.change_laws.proofs.Untouched.{keep-in}
 use borrow.Author.Tests.{not-true}
-use Rattle.change_laws.proofs.InstanceRows.{keep-all, plant-not}
+use Rattle.change_laws.proofs.InstanceRows.{keep-all, plant-not, keep-in}
 
 -- ---- one entry of the table, when the rest is known
 pub data Step (version : ℕ) (a : Attribute) (table : List Attribute) (rows rest : List Row) : Type 0 where

@@ -27,9 +27,10 @@ use Rattle.rules.proofs.ConformingLaws.{row-is}
 use Rattle.change_laws.proofs.RowEdits.{keep, plantRows, revalued, childrenAfter}
 use Rattle.change_laws.proofs.Rowwise.{Standing}
 use Rattle.change_laws.proofs.StandingLaws.{standing-every, standing-parent}
-use Rattle.change_laws.proofs.Untouched.{keep-in, keep-alike, map-same, children-left, children-cut, same-row, same-child, children-kept}
+use Rattle.change_laws.proofs.Untouched.{keep-alike, map-same, children-left, children-cut, same-row, same-child, children-kept}
 use Rattle.change_laws.proofs.DefinitionEdits.{added-absent, added-present, definition-lacking}
 use Rattle.change_laws.proofs.ConformingAfter.{conforming-elements, Replaced, Within, conforming-replaced}
+use Rattle.change_laws.proofs.InstanceRows.{keep-in}
 
 -- ---- an element row's name is a root's or a member's
 pub content-named : (c : Content) (rows : List Row) → ContentRows c rows → (r : Row) → List·Memᴰ r rows → r .sort ≡ element → List·Memᴰ (r .name) (names (modelOf c))

@@ -17,8 +17,8 @@ use Rattle.rules.proofs.Words.{and-both, and-split}
 use Rattle.rules.proofs.Apart.{differs}
 use Rattle.rules.proofs.ConformingLaws.{begins, begins-this, strip-past, strip-take, strip-lacks, strip-wrong}
 use Rattle.change_laws.proofs.RowEdits.{keep}
-use Rattle.change_laws.proofs.Untouched.{keep-in, map-same, revalued-other}
-use Rattle.change_laws.proofs.InstanceRows.{keep-none, keep-all}
+use Rattle.change_laws.proofs.Untouched.{map-same, revalued-other}
+use Rattle.change_laws.proofs.InstanceRows.{keep-none, keep-all, keep-in}
 use Rattle.change_laws.proofs.StandingLaws.{serialOf}
 use Rattle.change_laws.proofs.AttributeEdits.{Step, took, passed, strip-step, noAttribute, owned-rows}
 

@@ -100,6 +100,11 @@ pub record NoElement (bs : Bytes) (k : ℕ) : Type 0 where
   pub found : findRow (elementWith k) (rowsOf (storeIn bs)) ≡ none
   pub there : noElement k (storeIn bs) ≡ true
 
+-- an element that conforms, by its definition
+pub element-conforms : (version : ℕ) (form : Form) (r : Row) (rows : List Row) → r .sort ≡ element → RowConforms version form r rows
+    → (d : Definition) × (lookup (r .name) form ≡ some d) × ElementRows version d rows
+element-conforms version form r rows q x = rw q at x
+
 code-text : (s : RowSort) → eqb (rowCode s) 3 ≡ isText s
 code-text element = refl
 code-text attribute = refl
@@ -289,7 +294,7 @@ module _ (bs : Bytes) (w : Whole bs) where
   pub defined : (k i : ℕ) (e : Element bs k i) → Defined k i e
   defined k i e =
       let (d, g, x) =
-      conforms (e .row) (heads (e .below)) (e .sort)
+      element-conforms (storeIn bs .version) (formIn bs) (e .row) (heads (e .below)) (e .sort)
       (standing-every (λ r below. RowConforms (storeIn bs .version) (formIn bs) r below) (docsIn bs) (w .good .docs .rows) (e .row) (e .below) (e .stands)) in
       let n : Indexed (formIn bs) (e .row .name) = known-index (formIn bs) (e .row .name) (ap isThere g) in
       record {
@@ -301,9 +306,5 @@ module _ (bs : Bytes) (w : Whole bs) where
         at = some-same (sym (n .found) ∙ g);
       }
     where
-      conforms : (r : Row) (rows : List Row) → r .sort ≡ element → RowConforms (storeIn bs .version) (formIn bs) r rows
-          → (d : Definition) × (lookup (r .name) (formIn bs) ≡ some d) × ElementRows (storeIn bs .version) d rows
-      conforms r rows q x = rw q at x
-
       row-index : (r : Row) (owner : Bytes) → r .sort ≡ element → rowIndex (formIn bs) owner r ≡ indexOf (r .name) (formIn bs)
       row-index r owner q = rw q

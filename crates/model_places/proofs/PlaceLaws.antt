@@ -27,7 +27,7 @@ use Rattle.model.specs.declared.place.Found.the-variants.{At, Absent}
 use Rattle.model.specs.Members.{indexMembers, particlesOf, membersFrom, allMembers}
 use Rattle.model.specs.Places.{Particles, top, spotOf, placeIn, lastBy, PlaceTold, told, shown}
 use Rattle.model.specs.Positions.{spread, offset, holder, spotIn, leading, trailing, level}
-use Rattle.model.proofs.ParticleLaws.{length-particles, particles-drop}
+use Rattle.model.proofs.ParticleLaws.{length-particles}
 use Rattle.model.proofs.FindLaws.{found-placed}
 use Rattle.model.proofs.PositionLaws.{place-spot, spread-plug, length-leading}
 use Rattle.model.proofs.WrittenLaws.{particles-written, members-written}
@@ -36,6 +36,7 @@ use Rattle.store_laws.specs.Stores.{storeIn}
 use Rattle.model_places.specs.Placing.{indexOfName, modelIn, partIn, leads, foundBy, Placed}
 use Rattle.model_places.proofs.OwnParts.{own-particles}
 use Rattle.rules.proofs.ConformingLaws.{none-some}
+use Rattle.model.proofs.MembersLaws.{particles-past}
 
 -- ---- the places of the changes
 pub found-remove : (o : ℕ) (p : List ℕ) (bs : Bytes) → foundAt remove o p (storeIn bs) ≡ foundBy false p (modelIn bs o)
@@ -173,7 +174,7 @@ module _ (bs : Bytes) (pass : passes bs ≡ true) (o : ℕ) (l : o < definitionC
 
         members-at : membersFrom (h .depth) (drop (particleSize * p) (partIn bs o)) ≡ chosen
         unfolding membersFrom
-        members-at = ap (λ (xs : Particles). indexMembers (build xs (h .depth))) (particles-drop p (partIn bs o) long) ∙ ap pickedOf same-told
+        members-at = ap (λ (xs : Particles). indexMembers (build xs (h .depth))) (particles-past p (partIn bs o)) ∙ ap pickedOf same-told
 
         there-is : Placed bs o i place h p
         there-is =

@@ -34,9 +34,9 @@ use Rattle.model.specs.Particle.{particleOf}
 use Rattle.model.specs.Members.{indexMember, indexMembers, particlesOf, membersFrom}
 use Rattle.model.specs.Places.{Particles, noParticle, top}
 use Rattle.model.specs.Positions.{elementParticle, groupParticle, spread, count, trailing, level}
-use Rattle.model.proofs.ParticleLaws.{particle-at, particles-drop, particles-take}
+use Rattle.model.proofs.ParticleLaws.{particle-at, particles-take}
 use Rattle.model.proofs.PositionLaws.{spread-plug, length-leading, length-spread}
-use Rattle.model.proofs.MembersLaws.{members-here}
+use Rattle.model.proofs.MembersLaws.{members-here, particles-past}
 use Rattle.model.proofs.FactsLaws.{facts-nothing}
 use Rattle.model_writer.proofs.HeadAfter.{depth-holder}
 use Rattle.store_laws.specs.Stores.{storeIn}
@@ -197,10 +197,9 @@ module _ {bs : Bytes} {o : ℕ} {place : List ℕ} {h : Holder} {p : ℕ} {q : Q
     unfolding membersFrom
     before-is =
         let z : p - h .start ≡ count f = omega (arith, start-is, stands-is) in
-        let fit : particleSize * h .start ≤ length part = omega (arith, room-here, start-is, stands-is) in
         ap (λ (l : Particles). indexMembers (build l d))
         (particles-take (p - h .start) (drop (particleSize * h .start) part) (omega (arith, room-here, length-drop (particleSize * h .start) part))
-        ∙ ap₂ (λ (i : ℕ) (l : Particles). take i l) z (particles-drop (h .start) part fit ∙ from-first)
+        ∙ ap₂ (λ (i : ℕ) (l : Particles). take i l) z (particles-past (h .start) part ∙ from-first)
         ∙ take-at (spread d f) onward (count f) (length-spread d f))
         ∙ members-spread d f
 

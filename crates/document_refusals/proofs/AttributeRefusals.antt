@@ -5,7 +5,7 @@ use borrow.Author.Tests.{eq-eqb, ne-eqb, not-false}
 use mathlib.Core.Path.{_≡_, refl, sym, ap, ap₂, _∙_, subst}
 use mathlib.Core.Logic.{⊎-elim}
 use mathlib.Core.Bool.{Bool, true, false, _&&_, _||_, not, false≢true, Bool·not-not}
-use mathlib.Core.Option.{Option, none, some}
+use mathlib.Core.Option.{Option, none, some, Option·some-injective}
 use mathlib.Core.List.{List, [], _∷_, map, List·Memᴰ, List·Memᴰ·head, List·Memᴰ·not-nil, List·Memᴰ·cases-cons}
 use lib.Dec.{eqb}
 use lib.ListN.{length}
@@ -44,7 +44,6 @@ use Rattle.document_refusals.proofs.ElementsAfter.{ok}
 use Rattle.document_refusals.proofs.AttributesAfter.{drop-conforms, set-conforms}
 use Rattle.change_laws.proofs.FirstCondition.{gives-hit, gives-next, gives-none}
 use Rattle.store_check.proofs.AttributeOwners.{owned, unowned}
-use Rattle.lookup.proofs.Laws.{some-same}
 use Rattle.change_laws.proofs.InstanceRows.{keep-no, keep-yes, keep-in}
 use Rattle.rules.proofs.ConformingLaws.{is-element}
 use Rattle.layout.specs.Fields.{versionAt}
@@ -250,7 +249,7 @@ module _ (bs : Bytes) (w : Whole bs) (a : ℕ) where
         (standing-every (λ r below. RowConforms (storeIn bs .version) (formIn bs) r below) (docsIn bs) (w .good .docs .rows) (y .row) (y .below) (y .stands))
 
     own : y .owned .owner ≡ shape .0
-    own = some-same (sym (owner-found a (formIn bs) (w .good .form .names) (y .owned) (y .at)) ∙ ap (λ (z : Bytes). lookup z (formIn bs)) (y .mine) ∙ shape .1)
+    own = Option·some-injective _ _ (sym (owner-found a (formIn bs) (w .good .form .names) (y .owned) (y .at)) ∙ ap (λ (z : Bytes). lookup z (formIn bs)) (y .mine) ∙ shape .1)
 
     pub drop-is : conforming (storeIn bs .version) (formIn bs) (after (destroyAttributeRow k a) (storeIn bs) .docs) ≡ not (byIndex bs .needed a)
     drop-is =
@@ -265,7 +264,7 @@ module _ (bs : Bytes) (w : Whole bs) (a : ℕ) where
         ∙ sym (entry (y .owned) (y .at) .allowed v)
 
     pub same-row : {i : ℕ} (f : Element bs k i) → y .owned .owner .name ≡ f .row .name
-    same-row f = y .mine ∙ ap nameOf (some-same (sym (y .found) ∙ f .found))
+    same-row f = y .mine ∙ ap nameOf (Option·some-injective _ _ (sym (y .found) ∙ f .found))
 
     pub owner-is : {i : ℕ} (f : Element bs k i) → attributeIn (widthOf bs) (attributesIn bs) a .owner ≡ rowIn bs i .row .index
     owner-is {i} f = entry (y .owned) (y .at) .owner ∙ ap (λ (z : Bytes). indexOf z (formIn bs)) (same-row f) ∙ sym (defined bs w k i f .index)

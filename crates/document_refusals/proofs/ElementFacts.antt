@@ -4,12 +4,13 @@ use native.Mathlib.Omega.{arith}
 use mathlib.Core.Path.{_≡_, refl, sym, ap, ap₂, _∙_, subst}
 use mathlib.Core.Logic.{_⊎_, inl, inr, ⊎-elim}
 use mathlib.Core.Bool.{Bool, true, false, _&&_, _||_, not, false≢true}
-use mathlib.Core.Option.{Option, none, some}
-use mathlib.Core.List.{List, [], _∷_, _++_, map, append-nil, List·Memᴰ, List·Memᴰ·head, List·Memᴰ·tail, List·Memᴰ·not-nil}
+use mathlib.Core.Option.{Option, none, some, Option·some-injective}
+use mathlib.Core.List.{List, [], _∷_, _++_, map, append-nil, List·Memᴰ, List·Memᴰ·head, List·Memᴰ·tail, List·Memᴰ·not-nil, head-eq-of-cons-eq, nil≢cons}
 use lib.Dec.{eqb}
 use lib.ListN.{length}
+use mathlib.Core.List.{tail-eq-of-cons-eq}
 use Rattle.rules.specs.Bytes.{Bytes, any, eqb-eq, eqb-of}
-use Rattle.rules.specs.Store.{Definition, RowSort, element, attribute, text, Row, Forest, heads}
+use Rattle.rules.specs.Store.{Definition, RowSort, element, attribute, text, Row, Forest, heads, Form}
 use Rattle.rules.specs.Preorder.{Deep, flatten}
 use Rattle.rules.specs.Layout.{rowSize, FlatRow, rowCode, rowIndex, indexed, indexOf}
 use Rattle.rules.specs.Decode.{readRow, rowCount}
@@ -26,7 +27,7 @@ use Rattle.change_laws.proofs.Untouched.{keep-alike}
 use Rattle.change_laws.proofs.StandingLaws as standing
 use Rattle.change_laws.proofs.StandingLaws.{serialOf, standing-every, standing-line, found-stands, one-row}
 use Rattle.layout.specs.Bodies.{widthOf, treeRowsIn}
-use Rattle.lookup.proofs.Laws.{from-step, from-none, some-same}
+use Rattle.lookup.proofs.Laws.{from-step, from-none}
 use Rattle.store_check.proofs.IndexLaws.{Indexed, known-index}
 use Rattle.store_check.proofs.AttributeRows.{rowWritten}
 use Rattle.store_laws.specs.Stores.{storeIn}
@@ -35,7 +36,6 @@ use Rattle.document_refusals.proofs.SuffixLaws.{rowAt}
 use Rattle.document_refusals.proofs.TreeLaws.{ofSort, Located, located-children, seek-tree}
 use Rattle.store_check.proofs.StoreFacts.{formIn, docsIn, Whole}
 use Rattle.plans.proofs.FollowingLaws.{element-code}
-use Rattle.document_refusals.proofs.AttributeTests.{first-same, not-nil}
 use Rattle.rules.proofs.ConformingLaws.{is-element}
 use Rattle.lookup.specs.Bodies.{rowsFrom}
 
@@ -110,9 +110,6 @@ code-text element = refl
 code-text attribute = refl
 code-text text = refl
 
-rest-same : {A : Type 0} {x y : A} {xs ys : List A} → x ∷ xs ≡ y ∷ ys → xs ≡ ys
-rest-same e = cc
-
 module _ (bs : Bytes) (w : Whole bs) where
   -- rows that begin with a row that stands
   module _ (i : ℕ) {xs : List (Deep FlatRow)} (b : Begins (widthOf bs) (treeRowsIn bs) (rowCount bs) i xs) (l : Located (formIn bs) (docsIn bs) xs) where
@@ -121,18 +118,18 @@ module _ (bs : Bytes) (w : Whole bs) where
       where
         by : (i < rowCount bs) ⊎ (rowCount bs ≤ i) → i < rowCount bs
         by (inl h) = h
-        by (inr h) = absurd (not-nil (sym (from-none readRow (rowSize (widthOf bs)) (treeRowsIn bs) (rowCount bs) i h) ∙ b .from ∙ l .rows))
+        by (inr h) = absurd (nil≢cons (sym (from-none readRow (rowSize (widthOf bs)) (treeRowsIn bs) (rowCount bs) i h) ∙ b .from ∙ l .rows))
 
     located-step : rowAt (widthOf bs) (treeRowsIn bs) i ∷ rowsFrom (widthOf bs) (treeRowsIn bs) (rowCount bs) (i + 1)
         ≡ record { depth = l .depth; row = rowWritten (formIn bs) (l .owner) (l .row) } ∷ (flatten (suc (l .depth)) (indexed (formIn bs) (l .row .name) (l .below)) ++ l .rest)
     located-step = sym (from-step readRow (rowSize (widthOf bs)) (treeRowsIn bs) (rowCount bs) i located-below) ∙ b .from ∙ l .rows
 
     pub located-here : rowAt (widthOf bs) (treeRowsIn bs) i ≡ record { depth = l .depth; row = rowWritten (formIn bs) (l .owner) (l .row) }
-    located-here = first-same located-step
+    located-here = head-eq-of-cons-eq located-step
 
     pub located-next : (s : ℕ) → children s (suc (l .depth)) (rowsFrom (widthOf bs) (treeRowsIn bs) (rowCount bs) (i + 1))
         ≡ map (rowWritten (formIn bs) (l .row .name)) (keep (ofSort (formIn bs) s) (heads (l .below)))
-    located-next s = ap (children s (suc (l .depth))) (rest-same located-step) ∙ located-children (formIn bs) l s
+    located-next s = ap (children s (suc (l .depth))) (tail-eq-of-cons-eq located-step) ∙ located-children (formIn bs) l s
 
     -- an element row is the one with its serial
     pub located-element : isElement (l .row .sort) ≡ true → Element bs (l .row .serial) i
@@ -176,7 +173,7 @@ module _ (bs : Bytes) (w : Whole bs) where
           by : Sought (seek p (rowsFrom (widthOf bs) (treeRowsIn bs) (rowCount bs) 0))
               → (l : Located (formIn bs) (docsIn bs) (seek p (rowsFrom (widthOf bs) (treeRowsIn bs) (rowCount bs) 0))) × (q (l .row) (heads (l .below)) ≡ true)
           by (inl x) = x
-          by (inr (f, e)) = absurd (not-nil (sym e ∙ sym (b .from) ∙ from-step readRow (rowSize (widthOf bs)) (treeRowsIn bs) (rowCount bs) i h))
+          by (inr (f, e)) = absurd (nil≢cons (sym e ∙ sym (b .from) ∙ from-step readRow (rowSize (widthOf bs)) (treeRowsIn bs) (rowCount bs) i h))
 
       sought-none : rowCount bs ≤ i → (r : Row) (c : Forest Row) → Standing (docsIn bs) r c → q r (heads c) ≡ false
       sought-none h = by sought
@@ -303,7 +300,7 @@ module _ (bs : Bytes) (w : Whole bs) where
         fits = x;
         index = ap (λ (z : Deep FlatRow). z .row .index) (e .here) ∙ row-index (e .row) (e .owner) (e .sort);
         below = n .below;
-        at = some-same (sym (n .found) ∙ g);
+        at = Option·some-injective _ _ (sym (n .found) ∙ g);
       }
     where
       row-index : (r : Row) (owner : Bytes) → r .sort ≡ element → rowIndex (formIn bs) owner r ≡ indexOf (r .name) (formIn bs)

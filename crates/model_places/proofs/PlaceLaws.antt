@@ -3,7 +3,7 @@ use Prim.Native.Nat.{ℕ, _+_, _*_, _<_, _≤_}
 use native.Mathlib.Omega.{arith}
 use mathlib.Core.Path.{_≡_, refl, sym, ap, _∙_}
 use mathlib.Core.Bool.{Bool, true, false, false≢true}
-use mathlib.Core.Option.{Option, none, some}
+use mathlib.Core.Option.{Option, none, some, Option·none-ne-some}
 use mathlib.Core.List.{List, _++_}
 use lib.Dec.{leb}
 use lib.ListN.{length, drop, length-append}
@@ -35,7 +35,6 @@ use Rattle.model.proofs.NamedPlaces.{renameFound, find-gap-named, find-nth-name
 use Rattle.store_laws.specs.Stores.{storeIn}
 use Rattle.model_places.specs.Placing.{indexOfName, modelIn, partIn, leads, foundBy, Placed}
 use Rattle.model_places.proofs.OwnParts.{own-particles}
-use Rattle.rules.proofs.ConformingLaws.{none-some}
 use Rattle.model.proofs.MembersLaws.{particles-past}
 
 -- ---- the places of the changes
@@ -81,7 +80,7 @@ found-right {A} i place ms x e = by (leb (length place) 5) e
   where
     by : (b : Bool) → elim b as (λ z. Option (Spot A)) [ true ↦ leads i place ms | false ↦ none ] ≡ some x → plug (x .context) (x .picked) ≡ ms
     by true e = leads-right i place ms x e
-    by false e = absurd (none-some e)
+    by false e = absurd (Option·none-ne-some _ e)
 
 -- ---- in the part of a definition
 abbrev pickedOf : Option PlaceTold → Members ℕ

@@ -3,7 +3,7 @@ use Prim.Native.Nat.{ℕ, zero, suc, _+_, _-_, _*_, _<_, _≤_}
 use native.Mathlib.Omega.{arith}
 use borrow.Author.Tests.{eq-eqb, ne-eqb, lt-ltb, le-ltb}
 use mathlib.Core.Path.{_≡_, refl, sym, ap, ap₂, _∙_, subst}
-use mathlib.Core.Bool.{Bool, true, false, _&&_, _||_, not, false≢true}
+use mathlib.Core.Bool.{Bool, true, false, _&&_, _||_, not, false≢true, or-assoc}
 use mathlib.Core.Option.{none, some}
 use mathlib.Core.List.{List, [], _∷_, _++_, append-assoc}
 use lib.Dec.{eqb, ltb}
@@ -69,15 +69,11 @@ done-rename f done = refl
 done-rename f (el q x t) = refl
 done-rename f (group q k ms t) = refl
 
-or-assoc : (a b c : Bool) → (a || (b || c)) ≡ ((a || b) || c)
-or-assoc true b c = refl
-or-assoc false b c = refl
-
 nothing-append : (f t : Members ℕ) → nothing Choice (f ⊕ t) ≡ (nothing Choice f || nothing Choice t)
 unfolding nothing _⊕_
 nothing-append done t = refl
-nothing-append (el q i f) t = ap (λ (b : Bool). skips q || b) (nothing-append f t) ∙ or-assoc (skips q) (nothing Choice f) (nothing Choice t)
-nothing-append (group q k ms f) t = ap (λ (b : Bool). (skips q || nothing k ms) || b) (nothing-append f t) ∙ or-assoc (skips q || nothing k ms) (nothing Choice f) (nothing Choice t)
+nothing-append (el q i f) t = ap (λ (b : Bool). skips q || b) (nothing-append f t) ∙ sym (or-assoc (skips q) (nothing Choice f) (nothing Choice t))
+nothing-append (group q k ms f) t = ap (λ (b : Bool). (skips q || nothing k ms) || b) (nothing-append f t) ∙ sym (or-assoc (skips q || nothing k ms) (nothing Choice f) (nothing Choice t))
 
 restOf : Members ℕ → Members ℕ
 restOf done = done
@@ -206,7 +202,7 @@ module _ {bs : Bytes} {o : ℕ} {place : List ℕ} {h : Holder} {p : ℕ} {q : Q
     choice-is : choiceLeft part (h .start) p d ≡ (skips r || nothing Choice (f ⊕ left))
     choice-is =
         (λ i. (skips (quantifier-read i) || nothing Choice (before-is i)) || nothing Choice (rest-is i))
-        ∙ sym (or-assoc (skips r) (nothing Choice f) (nothing Choice left))
+        ∙ or-assoc (skips r) (nothing Choice f) (nothing Choice left)
         ∙ ap (λ (b : Bool). skips r || b) (sym (nothing-append f left))
 
   -- 14

@@ -4,9 +4,9 @@ use mathlib.Core.Path.{_≡_, refl, sym, ap, ap₂, _∙_, subst}
 use mathlib.Core.Logic.{_⊎_, inl, inr}
 use mathlib.Core.Bool.{Bool, true, false, _&&_, not, false≢true, and-false}
 use mathlib.Core.Option.{Option, none, some}
-use mathlib.Core.List.{List, [], _∷_, map, List·Memᴰ, List·Memᴰ·head, List·Memᴰ·tail, List·Memᴰ·not-nil, List·Memᴰ·cases-cons, Memᴰ·cast, Memᴰ·map, nil≢cons}
+use mathlib.Core.List.{List, [], _∷_, map, List·Memᴰ, List·Memᴰ·head, List·Memᴰ·tail, List·Memᴰ·not-nil, List·Memᴰ·cases-cons, Memᴰ·cast, Memᴰ·map}
+use mathlib.Core.List.{nil≢cons, head-eq-of-cons-eq}
 use borrow.Author.Tests.{eq-eqb}
-use mathlib.Core.List.{head-eq-of-cons-eq}
 use Rattle.rules.specs.Bytes.{Bytes, same, same-eq, bytes, all}
 use Rattle.rules.specs.Model.{Distinct, member}
 use Rattle.rules.specs.Store.{Attribute, attribute, Row}

@@ -3,7 +3,7 @@ use Prim.Native.Nat.{ℕ}
 use mathlib.Core.Path.{_≡_, refl, sym, ap, _∙_}
 use mathlib.Core.Logic.{⊎-elim}
 use mathlib.Core.Bool.{Bool, true, false, not, false≢true}
-use mathlib.Core.Option.{none, some}
+use mathlib.Core.Option.{none, some, Option·none-ne-some}
 use mathlib.Core.List.{List, [], _∷_, _++_, map, List·Memᴰ, List·Memᴰ·head, List·Memᴰ·tail, List·Memᴰ·not-nil, List·Memᴰ·cases-cons, Memᴰ·cast}
 use Rattle.rules.specs.Bytes.{Bytes, same, bytes, same-eq, same-refl, all}
 use Rattle.rules.specs.Model.{Distinct}
@@ -15,11 +15,10 @@ use Rattle.rules.specs.Lines.{attributeNamed}
 use Rattle.rules.specs.Change.{Plan, lacking}
 use Rattle.rules.proofs.Words.{and-both, and-split}
 use Rattle.rules.proofs.Apart.{differs}
-use Rattle.rules.proofs.ConformingLaws.{headAttribute, begins, begins-none, begins-other, begins-this, strip-past, strip-take, none-some, is-attribute}
+use Rattle.rules.proofs.ConformingLaws.{headAttribute, begins, begins-none, begins-other, begins-this, strip-past, strip-take, is-attribute}
 use Rattle.change_laws.proofs.RowEdits.{keep, plantRows}
-use Rattle.change_laws.proofs.Untouched.{keep-in}
 use borrow.Author.Tests.{not-true}
-use Rattle.change_laws.proofs.InstanceRows.{keep-all, plant-not}
+use Rattle.change_laws.proofs.InstanceRows.{keep-all, plant-not, keep-in}
 
 -- ---- one entry of the table, when the rest is known
 pub data Step (version : ℕ) (a : Attribute) (table : List Attribute) (rows rest : List Row) : Type 0 where
@@ -32,15 +31,15 @@ unfolding strip begins
 strip-step version a table [] rest e = by (mustBePresent version (a .sort)) refl
   where
     by : (m : Bool) → mustBePresent version (a .sort) ≡ m → Step version a table [] rest
-    by true m = absurd (none-some (rw (m, strip) at e))
+    by true m = absurd (Option·none-ne-some _ (rw (m, strip) at e))
     by false m = passed refl m (rw (m, strip) at e)
 strip-step version a table (r ∷ rows) rest e = by (begins (a .name) (r ∷ rows)) refl (mustBePresent version (a .sort)) refl (allows (a .sort) (a .value) (r .value)) refl
   where
     by : (b : Bool) → begins (a .name) (r ∷ rows) ≡ b → (m : Bool) → mustBePresent version (a .sort) ≡ m → (v : Bool) → allows (a .sort) (a .value) (r .value) ≡ v
         → Step version a table (r ∷ rows) rest
     by true b m p true v = took r rows refl b v (sym (strip-take version a table r rows b v) ∙ e)
-    by true b m p false v = let z : strip version (a ∷ table) (r ∷ rows) ≡ none = rw (b, strip) (rw v) in absurd (none-some (sym z ∙ e))
-    by false b true p v q = let z : strip version (a ∷ table) (r ∷ rows) ≡ none = rw (b, strip) (rw p) in absurd (none-some (sym z ∙ e))
+    by true b m p false v = let z : strip version (a ∷ table) (r ∷ rows) ≡ none = rw (b, strip) (rw v) in absurd (Option·none-ne-some _ (sym z ∙ e))
+    by false b true p v q = let z : strip version (a ∷ table) (r ∷ rows) ≡ none = rw (b, strip) (rw p) in absurd (Option·none-ne-some _ (sym z ∙ e))
     by false b false p v q = passed b p (sym (strip-past version a table (r ∷ rows) b p) ∙ e)
 
 -- ---- content: no attribute row among it

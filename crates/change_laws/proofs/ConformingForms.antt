@@ -2,7 +2,7 @@
 use Prim.Native.Nat.{ℕ}
 use mathlib.Core.Path.{_≡_, refl, sym, ap, ap₂, _∙_}
 use mathlib.Core.Logic.{_⊎_, inl, inr, ⊎-elim}
-use mathlib.Core.Bool.{Bool, true, false, _&&_, not, false≢true}
+use mathlib.Core.Bool.{Bool, true, false, _&&_, not, false≢true, and-false}
 use mathlib.Core.Option.{Option, some}
 use mathlib.Core.List.{List, [], _∷_, _++_, map, List·Memᴰ, List·Memᴰ·not-nil, List·Memᴰ·append-cases, List·Memᴰ·eq-of-singleton, Memᴰ·map, Memᴰ·cast}
 use Rattle.rules.specs.declared.GroupKind.the-variants.{Sequence}
@@ -27,9 +27,10 @@ use Rattle.rules.proofs.ConformingLaws.{row-is}
 use Rattle.change_laws.proofs.RowEdits.{keep, plantRows, revalued, childrenAfter}
 use Rattle.change_laws.proofs.Rowwise.{Standing}
 use Rattle.change_laws.proofs.StandingLaws.{standing-every, standing-parent}
-use Rattle.change_laws.proofs.Untouched.{keep-in, keep-alike, map-same, children-left, children-cut, same-row, same-child, children-kept}
+use Rattle.change_laws.proofs.Untouched.{keep-alike, map-same, children-left, children-cut, same-row, same-child, children-kept}
 use Rattle.change_laws.proofs.DefinitionEdits.{added-absent, added-present, definition-lacking}
 use Rattle.change_laws.proofs.ConformingAfter.{conforming-elements, Replaced, Within, conforming-replaced}
+use Rattle.change_laws.proofs.InstanceRows.{keep-in}
 
 -- ---- an element row's name is a root's or a member's
 pub content-named : (c : Content) (rows : List Row) → ContentRows c rows → (r : Row) → List·Memᴰ r rows → r .sort ≡ element → List·Memᴰ (r .name) (names (modelOf c))
@@ -115,11 +116,7 @@ module _ (w : ℕ) (s : Store) (ok : wellFormed w (s .form) ≡ true) (serials :
     plan₉ = making (λ r. mustBePresent (s .version) (sortOf k) && elementNamed (nameAtIndex o (s .form)) r) (λ u r. not (isAttribute (r .sort))) (tree (attributeRow (newAttribute n k v)) bare bare)
 
     within₉ : Within (nameAtIndex o (s .form)) plan₉
-    within₉ = record { takes = λ r t e. refl; fills = λ r e. rw e (no (mustBePresent (s .version) (sortOf k))); set = refl }
-      where
-        no : (b : Bool) → (b && false) ≡ false
-        no true = refl
-        no false = refl
+    within₉ = record { takes = λ r t e. refl; fills = λ r e. rw e (and-false (mustBePresent (s .version) (sortOf k))); set = refl }
 
     step₉ : member bytes n (map attributeName (owner .attributes)) ≡ false → (r : Row) (b : Forest Row) → Standing (s .docs) r b → elementNamed (owner .name) r ≡ true
         → fitsDefinition (s .version) (some owner) (heads b) ≡ true → fitsDefinition (s .version) (some more) (childrenAfter plan₉ r (heads b)) ≡ true

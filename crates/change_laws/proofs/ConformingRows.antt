@@ -1,11 +1,12 @@
 -- Conforming after the changes 11 to 16 of the rows, from what their conditions say.
 use Prim.Native.Nat.{ℕ}
 use mathlib.Core.Path.{_≡_, refl, sym, ap, ap₂, _∙_}
-use mathlib.Core.Bool.{Bool, true, false, not, false≢true}
+use mathlib.Core.Bool.{true, false, not, false≢true}
 use mathlib.Core.Option.{Option}
 use mathlib.Core.List.{List, map, List·Memᴰ}
 use lib.Dec.{eqb}
 use lib.ListN.{length}
+use borrow.Author.Tests.{not-false}
 use Rattle.rules.specs.Bytes.{Bytes, numbers, all}
 use Rattle.rules.specs.Store.{Definition, RowSort, element, attribute, text, Row, Forest, Store, heads}
 use Rattle.rules.specs.WellFormed.{known, wellFormed}
@@ -30,10 +31,6 @@ use Rattle.change_laws.proofs.InstanceRows.{keep-all}
 pub conforming-checked : (c : Call) (s : Store) → not (conforming (s .version) (s .form) (after c s .docs)) ≡ false → conforming (s .version) (s .form) (docsAfter c s) ≡ true
 unfolding after
 conforming-checked c s e = sym (conforming-number (s .version) (s .form) (s .next) (docsAfter c s)) ∙ not-false (conforming (s .version) (s .form) (after c s .docs)) e
-  where
-    not-false : (b : Bool) → not b ≡ false → b ≡ true
-    not-false true e = refl
-    not-false false e = sym e
 
 module _ (w : ℕ) (s : Store) (ok : wellFormed w (s .form) ≡ true) (serials : GoodSerials (s .next) (s .docs)) (conforms : conforming (s .version) (s .form) (s .docs) ≡ true) where
   -- 11: the filling stands last

@@ -4,7 +4,7 @@ use Prim.Native.Nat.{ℕ}
 use mathlib.Core.Path.{_≡_, refl, sym, ap, ap₂, _∙_}
 use mathlib.Core.Bool.{Bool, true, false, _&&_, not, false≢true}
 use mathlib.Core.Option.{some}
-use mathlib.Core.List.{List, [], _∷_, _++_, map, List·Memᴰ, List·Memᴰ·head, List·Memᴰ·tail}
+use mathlib.Core.List.{List, [], _∷_, _++_, map, List·Memᴰ, List·Memᴰ·head, List·Memᴰ·tail, map-append}
 use lib.Dec.{eqb}
 use lib.ListN.{length}
 use Rattle.rules.specs.declared.Quantifier.{Quantifier}
@@ -27,6 +27,7 @@ use Rattle.rules.proofs.ChildRows.{placeRows, firstRows, refitRows, refitGroupR
 use Rattle.rules.proofs.Height.{deep}
 use Rattle.rules.proofs.TestLaws.{all-test}
 use Rattle.rules.proofs.FillingLaws.{filling-heads, each-heads}
+use Rattle.rules.proofs.Correct.{distinct-right}
 use Rattle.change_laws.proofs.RowEdits.{rowSerial, keep, childrenAfter}
 use Rattle.change_laws.proofs.InstanceRows.{keep-all, keep-none, keep-beside, named-is, keep-erase, keep-first, named-none, among-none, whenDue, after-split, untouched}
 
@@ -60,14 +61,6 @@ not-element s b e = ap (λ (z : RowSort). isElement z && b) e
 
 is-element : (s : RowSort) (b : Bool) → s ≡ element → (isElement s && b) ≡ b
 is-element s b e = ap (λ (z : RowSort). isElement z && b) e
-
-distinct-right : (a b : List ℕ) → Distinct (a ++ b) → Distinct b
-distinct-right [] b d = d
-distinct-right (x ∷ a) b (n, d) = distinct-right a b d
-
-map-beside : (a b : List Row) → map rowSerial (a ++ b) ≡ map rowSerial a ++ map rowSerial b
-map-beside [] b = refl
-map-beside (r ∷ a) b = ap (λ (z : List ℕ). r .serial ∷ z) (map-beside a b)
 
 due-same : (due due′ : Bool) (ns : List Bytes) (f f′ rs rs′ : List Row) → due ≡ due′ → f ≡ f′ → rs ≡ rs′ → whenDue due ns f rs ≡ whenDue due′ ns f′ rs′
 due-same due due′ ns f f′ rs rs′ p q e = ap (λ (z : Bool). whenDue z ns f rs) p ∙ ap₂ (λ (a b : List Row). whenDue due′ ns a b) q e
@@ -111,7 +104,7 @@ module _ (version : ℕ) (form : Form) (ls : List Line) (owner txt : Bytes) (u :
   seen-back test f = below .seen test ∙ ap (map rowSerial) (keep-beside test front back ∙ ap (λ (z : List Row). z ++ keep test back) (keep-none test front f))
 
   once-back : Distinct (map rowSerial back)
-  once-back = distinct-right (map rowSerial front) (map rowSerial back) (rw (map-beside front back) at (below .once))
+  once-back = distinct-right (map rowSerial front) (map rowSerial back) (rw (map-append rowSerial front back) at (below .once))
 
   front-later : (ns : List Bytes) (v x : Row) → List·Memᴰ x front → laterThan ns v x ≡ false
   front-later ns v x m = not-element (x .sort) (not (member bytes (x .name) ns)) (attributes x m)

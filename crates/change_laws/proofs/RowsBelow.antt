@@ -19,7 +19,7 @@ use Rattle.rules.proofs.Height.{lookup-member, reaches-then}
 use Rattle.rules.proofs.PlanLaws.{AtMostOne}
 use Rattle.change_laws.proofs.Rowwise.{Standing}
 use Rattle.change_laws.proofs.StandingLaws.{standing-every, one-row, no-zero}
-use Rattle.rules.proofs.ConformingLaws.{is-attribute, is-element, is-text}
+use Rattle.rules.proofs.ConformingLaws.{is-attribute, is-element, is-text, in-order}
 use Rattle.change_laws.proofs.ConformingForms.{content-named}
 
 -- ---- lines and the rows that stand
@@ -49,16 +49,10 @@ line-parent up (tree r b t) l i =
     deeper (inr (u, c, s, e, m)) = (u, c, inr (inl s), e, m)
 
 -- ---- names taken out of a table, each at most once
-in-table : (xs table : List Bytes) → InOrder xs table → (x : Bytes) → List·Memᴰ x xs → List·Memᴰ x table
-in-table [] table o x i = absurd (List·Memᴰ·not-nil i)
-in-table (y ∷ xs) [] o x i = absurd o
-in-table (y ∷ xs) (z ∷ table) (inl (e, o)) x i = ⊎-elim (λ h. List·Memᴰ·head (h ∙ e)) (λ j. List·Memᴰ·tail (in-table xs table o x j)) (List·Memᴰ·cases-cons i)
-in-table (y ∷ xs) (z ∷ table) (inr o) x i = List·Memᴰ·tail (in-table (y ∷ xs) table o x i)
-
 each-once : (xs table : List Bytes) → InOrder xs table → Distinct table → Distinct xs
 each-once [] table o d = tt
 each-once (y ∷ xs) [] o d = absurd o
-each-once (y ∷ xs) (z ∷ table) (inl (e, o)) d = (λ i. d .0 (subst (λ (w : Bytes). List·Memᴰ w table) e (in-table xs table o y i)), each-once xs table o (d .1))
+each-once (y ∷ xs) (z ∷ table) (inl (e, o)) d = (λ i. d .0 (subst (λ (w : Bytes). List·Memᴰ w table) e (in-order xs table o y i)), each-once xs table o (d .1))
 each-once (y ∷ xs) (z ∷ table) (inr o) d = each-once (y ∷ xs) table o (d .1)
 
 named-once : (rows : List Row) → Distinct (map nameOf rows) → (r s : Row) → List·Memᴰ r rows → List·Memᴰ s rows → r .name ≡ s .name → r ≡ s

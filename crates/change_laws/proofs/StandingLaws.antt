@@ -81,7 +81,7 @@ standing-once (tree u a t) (n, d) r s b c (inr (inr i)) (inr (inl j)) e =
     absurd (distinct-apart (serials a) (serials t) d (r .serial) (Memᴰ·cast e (standing-serial a s c j)) (standing-serial t r b i))
 standing-once (tree u a t) (n, d) r s b c (inr (inr i)) (inr (inr j)) e = standing-once t (distinct-right (serials a) (serials t) d) r s b c i j e
 
-heads-serials : (f : Forest Row) (k : ℕ) → List·Memᴰ k (map rowSerial (heads f)) → List·Memᴰ k (serials f)
+pub heads-serials : (f : Forest Row) (k : ℕ) → List·Memᴰ k (map rowSerial (heads f)) → List·Memᴰ k (serials f)
 heads-serials bare k m = m
 heads-serials (tree r b t) k m = ⊎-elim (λ e. List·Memᴰ·head e) (λ i. List·Memᴰ·tail (Memᴰ·append-right (serials b) (heads-serials t k i))) (List·Memᴰ·cases-cons m)
 

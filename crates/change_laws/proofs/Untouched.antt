@@ -1,9 +1,8 @@
 -- What a plan leaves alone: the rows right below a row where it takes nothing, fills nothing or sets nothing.
 use Prim.Native.Nat.{ℕ}
 use mathlib.Core.Path.{_≡_, refl, ap, ap₂, _∙_}
-use mathlib.Core.Logic.{⊎-elim}
 use mathlib.Core.Bool.{Bool, true, false, not}
-use mathlib.Core.List.{List, [], _∷_, map, List·Memᴰ, List·Memᴰ·head, List·Memᴰ·tail, List·Memᴰ·cases-cons}
+use mathlib.Core.List.{List, [], _∷_, map, List·Memᴰ, List·Memᴰ·head, List·Memᴰ·tail}
 use Rattle.rules.specs.Bytes.{numbers}
 use Rattle.rules.specs.Store.{Row, Forest, heads}
 use Rattle.rules.specs.Change.{Plan}
@@ -16,15 +15,6 @@ use Rattle.change_laws.proofs.InstanceRows.{keep-all, plant-not}
 
 pub revalued-other : (p : Plan) (r : Row) → (r .serial ≡ p .set → ⊥) → revalued p r ≡ r
 revalued-other p r f = rw (differs numbers (r .serial) (p .set) f)
-
-pub keep-in : (test : Row → Bool) (rows : List Row) (r : Row) → List·Memᴰ r (keep test rows) → List·Memᴰ r rows
-unfolding keep
-keep-in test [] r m = m
-keep-in test (s ∷ rows) r m = by (test s) refl (keep-in test rows r)
-  where
-    by : (c : Bool) → test s ≡ c → (List·Memᴰ r (keep test rows) → List·Memᴰ r rows) → List·Memᴰ r (s ∷ rows)
-    by true q f = ⊎-elim (λ i. List·Memᴰ·head i) (λ i. List·Memᴰ·tail (f i)) (List·Memᴰ·cases-cons (rw (q, keep) at m))
-    by false q f = List·Memᴰ·tail (f (rw (q, keep) at m))
 
 pub keep-alike : (test other : Row → Bool) → ((r : Row) → test r ≡ other r) → (rows : List Row) → keep test rows ≡ keep other rows
 unfolding keep

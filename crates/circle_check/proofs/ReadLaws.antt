@@ -1,7 +1,7 @@
 -- The members of definitions, as indices, are the names in the models of the form that is read from the same bytes.
 use Prim.Native.Nat.{ℕ, zero, suc, _+_, _*_, _-_, _≤_, _<_}
 use native.Mathlib.Omega.{arith}
-use native.Mathlib.Nat.{zero-add, suc-add, mul-suc, mul-zero, not-suc-le-zero, le-of-suc-le-suc}
+use native.Mathlib.Nat.{not-suc-le-zero, le-of-suc-le-suc}
 use mathlib.Core.Path.{_≡_, refl, ap, ap₂, _∙_, sym, subst}
 use mathlib.Core.Logic.{_↔_}
 use mathlib.Core.Bool.{Bool, true, false}
@@ -26,7 +26,7 @@ use Rattle.circle_check.specs.Members.{countAt, startAt, modelBytes, ele
 use Rattle.circle_check.specs.declared.Heights.{Heights}
 use Rattle.circle_check.specs.Deep.{deepIndex, Ranked}
 use Rattle.circle_check.proofs.CircleLaws.{Models, Indexed, fit-within, fit-acyclic}
-use Rattle.codec.proofs.Records.{length-many, many-within}
+use Rattle.codec.proofs.Records.{length-many, many-part}
 
 -- ---- elements among particles
 pub elements-append : (xs ys : List (Deep FlatParticle)) → elementsIn (xs ++ ys) ≡ elementsIn xs ++ elementsIn ys
@@ -121,18 +121,6 @@ module _ (ns : List Bytes) where
   length-read o [] ps cs = refl
   length-read o (d ∷ ds) ps cs = ap suc (length-read (suc o) ds (drop (d .particles) ps) cs)
 
--- ---- records in bytes
-module _ {A : Type 0} (f : Bytes → A) (size : ℕ) where
-  many-drop : (s q : ℕ) (l : Bytes) → drop s (readMany f size (s + q) l) ≡ readMany f size q (drop (size * s) l)
-  many-drop zero q l = rw (zero-add, mul-zero)
-  many-drop (suc s) q l =
-      let e : size + size * s ≡ size * suc s = omega (arith, mul-suc size s) in
-      rw suc-add (many-drop s q (drop size l) ∙ ap (readMany f size q) (drop-drop (size * s) size l ∙ ap (λ (i : ℕ). drop i l) e))
-
-  many-take : (c q : ℕ) (l : Bytes) → take c (readMany f size (c + q) l) ≡ readMany f size c l
-  many-take zero q l = refl
-  many-take (suc c) q l = rw suc-add (ap (λ (xs : List A). f (take size l) ∷ xs) (many-take c q (drop size l)))
-
 -- ---- the members in bytes
 elements-read : (k : ℕ) (t : Bytes) → length t ≡ particleSize * k → elementsOf t ≡ elementsIn (readMany readParticle particleSize k t)
 unfolding elementsOf elementsIn
@@ -182,13 +170,7 @@ part-elements : (parts : Bytes) (p s c : ℕ) → particleSize * p ≤ length pa
 part-elements parts p s c long room =
     ap elementsOf (part-there (particleSize * s) (particleSize * c) parts (omega arith))
     ∙ elements-read c (take (particleSize * c) (drop (particleSize * s) parts)) (omega (arith, length-take (particleSize * c) (drop (particleSize * s) parts), length-drop (particleSize * s) parts))
-    ∙ ap elementsIn (many-within readParticle particleSize c (drop (particleSize * s) parts) ∙ sym (cut (p - (s + c)) (omega arith)))
-  where
-    cut : (q : ℕ) → p ≡ s + (c + q) → take c (drop s (readMany readParticle particleSize p parts)) ≡ readMany readParticle particleSize c (drop (particleSize * s) parts)
-    cut q e =
-        ap (λ (k : ℕ). take c (drop s (readMany readParticle particleSize k parts))) e
-        ∙ ap (λ (l : List (Deep FlatParticle)). take c l) (many-drop readParticle particleSize s (c + q) parts)
-        ∙ many-take readParticle particleSize c q (drop (particleSize * s) parts)
+    ∙ ap elementsIn (sym (many-part readParticle particleSize s c p parts room))
 
 pub start-room : (defs : Bytes) (n i : ℕ) → i < n → startAt defs i + countAt defs i ≤ startAt defs n
 unfolding startAt

@@ -5,7 +5,7 @@ use native.Mathlib.Numerals.{add-one}
 use native.Mathlib.Nat.{not-suc-le-zero}
 use mathlib.Core.Path.{_≡_, refl, ap, ap₂, _∙_, sym}
 use mathlib.Core.Logic.{_↔_}
-use mathlib.Core.Bool.{Bool, true, false, not, _&&_, false≢true}
+use mathlib.Core.Bool.{Bool, true, false, not, _&&_, false≢true, and-false}
 use mathlib.Core.List.{List, [], _∷_, List·Memᴰ}
 use lib.Dec.{ltb, leb, eqb}
 use lib.ListN.{length, getD, set, replicate, length-set, length-replicate}
@@ -98,11 +98,7 @@ between-yes : (x h : ℕ) → 1 ≤ x → x ≤ h → between 1 h x ≡ true
 between-yes x h a b = and-both (le-leb 1 x a) (le-leb x h b)
 
 between-no : (x h : ℕ) → h < x → between 1 h x ≡ false
-between-no x h l = rw (lt-leb x h l) (by (leb 1 x))
-  where
-    by : (b : Bool) → (b && false) ≡ false
-    by true = refl
-    by false = refl
+between-no x h l = rw (lt-leb x h l) (and-false (leb 1 x))
 
 between-none : (x h : ℕ) → x ≡ 0 → between 1 h x ≡ false
 between-none x h e = rw e

@@ -35,12 +35,12 @@ module _ {A : Type 0} (f : Bytes → A) (size : ℕ) where
   many-take (suc n) (suc c) s h = ap (λ (l : List A). f (take size s) ∷ l) (many-take n c (drop size s) (le-of-suc-le-suc h))
 
   -- those after the first n
-  pub many-drop : (n count : ℕ) (s : Bytes) → n ≤ count → drop n (readMany f size count s) ≡ readMany f size (count - n) (drop (size * n) s)
-  many-drop zero count s h = let e : count - 0 ≡ count = omega arith in rw (mul-zero, e)
-  many-drop (suc n) zero s h = absurd (not-suc-le-zero h)
-  many-drop (suc n) (suc c) s h =
+  pub many-drop : (n count : ℕ) (s : Bytes) → drop n (readMany f size count s) ≡ readMany f size (count - n) (drop (size * n) s)
+  many-drop zero count s = let e : count - 0 ≡ count = omega arith in rw (mul-zero, e)
+  many-drop (suc n) zero s = let e : 0 - suc n ≡ 0 = omega arith in rw e
+  many-drop (suc n) (suc c) s =
       let e : suc c - suc n ≡ c - n = omega arith in
-      many-drop n c (drop size s) (le-of-suc-le-suc h) ∙ rw (e, drop-drop (size * n) size s, times size n)
+      many-drop n c (drop size s) ∙ rw (e, drop-drop (size * n) size s, times size n)
 
   -- only their bytes matter
   pub many-within : (n : ℕ) (s : Bytes) → readMany f size n (take (size * n) s) ≡ readMany f size n s
@@ -52,4 +52,4 @@ module _ {A : Type 0} (f : Bytes → A) (size : ℕ) where
   -- n of them from number m on are those of a part of the bytes
   pub many-part : (m n count : ℕ) (s : Bytes) → m + n ≤ count → take n (drop m (readMany f size count s)) ≡ readMany f size n (take (size * n) (drop (size * m) s))
   many-part m n count s h =
-      rw (many-drop m count s (omega arith), many-take n (count - m) (drop (size * m) s) (omega arith)) (sym (many-within n (drop (size * m) s)))
+      rw (many-drop m count s, many-take n (count - m) (drop (size * m) s) (omega arith)) (sym (many-within n (drop (size * m) s)))

@@ -3,7 +3,7 @@ use Prim.Native.Nat.{ℕ, zero, suc, _+_, _≤_}
 use native.Mathlib.Omega.{arith}
 use mathlib.Core.Path.{_≡_, refl, ap, ap₂, _∙_}
 use mathlib.Core.Bool.{Bool, true, false, false≢true}
-use mathlib.Core.List.{List, [], _∷_, _++_, map, append-nil, List·Memᴰ}
+use mathlib.Core.List.{List, [], _∷_, _++_, map, append-nil, List·Memᴰ, map-append}
 use lib.Dec.{eqb}
 use lib.ListN.{length}
 use Rattle.rules.specs.Bytes.{Bytes, same, all}
@@ -23,7 +23,6 @@ use Rattle.definition_creation.specs.Bodies.{created}
 use Rattle.definition_writer.proofs.Kept.{after-kept}
 use Rattle.definition_writer.proofs.FittingRows.{element-known, others-bare, every-row-map, roots-elements}
 use Rattle.definition_writer.proofs.Renumbered.{OkRow, moved-models, moved-definitions, moved-rows}
-use Rattle.rules.proofs.RenamingPlaces.{map-append}
 
 -- ---- nothing moves
 abbrev pub stays : ℕ → ℕ

@@ -4,7 +4,7 @@ use native.Mathlib.Omega.{arith}
 use native.Mathlib.Nat.{mul-suc, mul-zero}
 use native.Mathlib.Numerals.{add-one}
 use mathlib.Core.Path.{_≡_, refl, sym, ap, ap₂, _∙_}
-use mathlib.Core.List.{List, [], _∷_, _++_, map, append-assoc, append-nil}
+use mathlib.Core.List.{List, [], _∷_, _++_, map, append-assoc, append-nil, map-append}
 use lib.ListN.{length, take, drop, length-append, length-take, length-drop, take-append-drop}
 use lib.Seq.{drop-drop, take-append-seam, drop-append-seam, length-take-le, length-sets}
 use Rattle.rules.specs.Bytes.{Bytes}
@@ -19,7 +19,6 @@ use Rattle.layout.specs.Bodies.{Width}
 use Rattle.layout.specs.RecordBytes.{indexedBytes, ownedBytes}
 use Rattle.definition_writer.specs.Bodies.{memberMoved, movedParticle}
 use Rattle.definition_removal.specs.Bodies.{eachRecord, particleRecord, attributeRecord, movedAttribute, cutOut}
-use Rattle.rules.proofs.RenamingPlaces.{map-append}
 
 -- no record of a form is longer, of whatever width that a byte holds
 abbrev pub longest : ℕ

@@ -4,7 +4,7 @@ use native.Mathlib.Omega.{arith}
 use native.Mathlib.Nat.{zero-add}
 use mathlib.Core.Path.{_≡_, refl, sym, ap, ap₂, _∙_}
 use mathlib.Core.Bool.{Bool, true, false}
-use mathlib.Core.List.{List, [], _∷_, _++_, map}
+use mathlib.Core.List.{List, [], _∷_, _++_, map, map-append}
 use lib.Dec.{leb}
 use lib.ListN.{length, drop}
 use lib.Seq.{drop-append-seam}
@@ -17,7 +17,6 @@ use Rattle.rules.specs.Change.{without, nameAtIndex}
 use Rattle.rules.proofs.Apart.{differs}
 use Rattle.rules.proofs.DecodeLaws.{length-own, own-bound}
 use Rattle.definition_removal.specs.Bodies.{lowered, cutOut, particlesUpTo, attributesUpTo, movedAttribute}
-use Rattle.rules.proofs.RenamingPlaces.{map-append}
 
 -- ---- numbers that fall
 pub lowered-high : (from less x : ℕ) → from ≤ x → lowered from less x ≡ x - less

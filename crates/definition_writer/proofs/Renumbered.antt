@@ -2,7 +2,7 @@
 use Prim.Native.Nat.{ℕ, suc}
 use mathlib.Core.Path.{_≡_, refl, sym, ap, ap₂, _∙_}
 use mathlib.Core.Bool.{false}
-use mathlib.Core.List.{List, [], _∷_, _++_, map, List·Memᴰ, List·Memᴰ·head, List·Memᴰ·tail, Memᴰ·append-left, Memᴰ·append-right}
+use mathlib.Core.List.{List, [], _∷_, _++_, map, List·Memᴰ, List·Memᴰ·head, List·Memᴰ·tail, Memᴰ·append-left, Memᴰ·append-right, map-append}
 use lib.ListN.{length, length-map}
 use Rattle.rules.specs.declared.GroupKind.{GroupKind}
 use Rattle.rules.specs.declared.GroupKind.the-variants.{Sequence, Choice}
@@ -15,7 +15,6 @@ use Rattle.rules.specs.Layout.{rowCode, rowIndex, indexed, quantifierCode, grou
 use Rattle.rules.specs.Conforming.{EveryRow, isElement}
 use Rattle.rules.proofs.BooleanLaws.{Every, every-in}
 use Rattle.definition_writer.specs.Bodies.{rowMoved, movedRow, movedParticle}
-use Rattle.rules.proofs.RenamingPlaces.{map-append}
 
 -- g: how the definitions move, h: how the attributes do, of the names that are `Ok`
 module _ (form form′ : Form) (g : ℕ → ℕ) (Ok : Bytes → Type 0) (elements : (n : Bytes) → Ok n → indexOf n form′ ≡ g (indexOf n form)) where

@@ -5,7 +5,7 @@ use borrow.Author.Tests.{eq-eqb, ne-eqb, not-false}
 use mathlib.Core.Path.{_≡_, refl, sym, ap, ap₂, _∙_, subst}
 use mathlib.Core.Logic.{⊎-elim}
 use mathlib.Core.Bool.{Bool, true, false, _&&_, _||_, not, false≢true, Bool·not-not}
-use mathlib.Core.Option.{Option, none, some}
+use mathlib.Core.Option.{Option, none, some, Option·some-injective}
 use mathlib.Core.List.{List, [], _∷_, map, List·Memᴰ, List·Memᴰ·head, List·Memᴰ·not-nil, List·Memᴰ·cases-cons}
 use lib.Dec.{eqb}
 use lib.ListN.{length}
@@ -23,7 +23,6 @@ use Rattle.change_laws.proofs.RowEdits.{rowSerial, keep}
 use Rattle.rules.proofs.Apart.{differs}
 use Rattle.change_laws.proofs.Rowwise.{Standing}
 use Rattle.change_laws.proofs.FormLaws.{attribute-owned, owner-found, owner-at, owner-below}
-use Rattle.change_laws.proofs.Untouched.{keep-in}
 use Rattle.change_laws.proofs.StandingLaws.{standing-every, found-element, children-are, children-given}
 use Rattle.form_index.specs.Indices.{IndexForm}
 use Rattle.layout.specs.Bodies.{widthOf, WidthIn, attributesIn}
@@ -40,13 +39,12 @@ use Rattle.document_refusals.specs.Finding.{AttributeRefused, rowIn, chi
 use Rattle.change_laws.specs.FirstCondition.{Gives}
 use Rattle.document_refusals.proofs.TreeLaws.{ofSort}
 use Rattle.store_check.proofs.StoreFacts.{formIn, docsIn, byIndex, Whole, bad-text, fine-text}
-use Rattle.document_refusals.proofs.ElementFacts.{Element, NoElement, defined, children-at, any-found}
+use Rattle.document_refusals.proofs.ElementFacts.{Element, NoElement, defined, children-at, any-found, element-conforms}
 use Rattle.document_refusals.proofs.ElementsAfter.{ok}
 use Rattle.document_refusals.proofs.AttributesAfter.{drop-conforms, set-conforms}
 use Rattle.change_laws.proofs.FirstCondition.{gives-hit, gives-next, gives-none}
 use Rattle.store_check.proofs.AttributeOwners.{owned, unowned}
-use Rattle.lookup.proofs.Laws.{some-same}
-use Rattle.change_laws.proofs.InstanceRows.{keep-no, keep-yes}
+use Rattle.change_laws.proofs.InstanceRows.{keep-no, keep-yes, keep-in}
 use Rattle.rules.proofs.ConformingLaws.{is-element}
 use Rattle.layout.specs.Fields.{versionAt}
 
@@ -247,15 +245,11 @@ module _ (bs : Bytes) (w : Whole bs) (a : ℕ) where
   -- ---- conforming after
   module _ {k : ℕ} (y : Known k) where
     shape : (d : Definition) × (lookup (y .row .name) (formIn bs) ≡ some d) × ElementRows (storeIn bs .version) d (heads (y .below))
-    shape = conforms (y .row) (heads (y .below)) (y .sort)
+    shape = element-conforms (storeIn bs .version) (formIn bs) (y .row) (heads (y .below)) (y .sort)
         (standing-every (λ r below. RowConforms (storeIn bs .version) (formIn bs) r below) (docsIn bs) (w .good .docs .rows) (y .row) (y .below) (y .stands))
-      where
-        conforms : (r : Row) (rows : List Row) → r .sort ≡ element → RowConforms (storeIn bs .version) (formIn bs) r rows
-            → (d : Definition) × (lookup (r .name) (formIn bs) ≡ some d) × ElementRows (storeIn bs .version) d rows
-        conforms r rows q x = rw q at x
 
     own : y .owned .owner ≡ shape .0
-    own = some-same (sym (owner-found a (formIn bs) (w .good .form .names) (y .owned) (y .at)) ∙ ap (λ (z : Bytes). lookup z (formIn bs)) (y .mine) ∙ shape .1)
+    own = Option·some-injective _ _ (sym (owner-found a (formIn bs) (w .good .form .names) (y .owned) (y .at)) ∙ ap (λ (z : Bytes). lookup z (formIn bs)) (y .mine) ∙ shape .1)
 
     pub drop-is : conforming (storeIn bs .version) (formIn bs) (after (destroyAttributeRow k a) (storeIn bs) .docs) ≡ not (byIndex bs .needed a)
     drop-is =
@@ -270,7 +264,7 @@ module _ (bs : Bytes) (w : Whole bs) (a : ℕ) where
         ∙ sym (entry (y .owned) (y .at) .allowed v)
 
     pub same-row : {i : ℕ} (f : Element bs k i) → y .owned .owner .name ≡ f .row .name
-    same-row f = y .mine ∙ ap nameOf (some-same (sym (y .found) ∙ f .found))
+    same-row f = y .mine ∙ ap nameOf (Option·some-injective _ _ (sym (y .found) ∙ f .found))
 
     pub owner-is : {i : ℕ} (f : Element bs k i) → attributeIn (widthOf bs) (attributesIn bs) a .owner ≡ rowIn bs i .row .index
     owner-is {i} f = entry (y .owned) (y .at) .owner ∙ ap (λ (z : Bytes). indexOf z (formIn bs)) (same-row f) ∙ sym (defined bs w k i f .index)

@@ -2,9 +2,10 @@
 use Prim.Native.Nat.{ℕ}
 use mathlib.Core.Path.{_≡_, refl, sym, ap, ap₂, _∙_, subst}
 use mathlib.Core.Logic.{_⊎_, inl, inr}
-use mathlib.Core.Bool.{Bool, true, false, _&&_, not, false≢true}
+use mathlib.Core.Bool.{Bool, true, false, _&&_, not, false≢true, and-false}
 use mathlib.Core.Option.{Option, none, some}
 use mathlib.Core.List.{List, [], _∷_, map, List·Memᴰ, List·Memᴰ·head, List·Memᴰ·tail, List·Memᴰ·not-nil, List·Memᴰ·cases-cons, Memᴰ·cast, Memᴰ·map}
+use mathlib.Core.List.{nil≢cons, head-eq-of-cons-eq}
 use borrow.Author.Tests.{eq-eqb}
 use Rattle.rules.specs.Bytes.{Bytes, same, same-eq, bytes, all}
 use Rattle.rules.specs.Model.{Distinct, member}
@@ -17,8 +18,8 @@ use Rattle.rules.proofs.Words.{and-both, and-split}
 use Rattle.rules.proofs.Apart.{differs}
 use Rattle.rules.proofs.ConformingLaws.{begins, begins-this, strip-past, strip-take, strip-lacks, strip-wrong}
 use Rattle.change_laws.proofs.RowEdits.{rowSerial, keep}
-use Rattle.change_laws.proofs.Untouched.{keep-in, map-same, revalued-other}
-use Rattle.change_laws.proofs.InstanceRows.{keep-none, keep-all}
+use Rattle.change_laws.proofs.Untouched.{map-same, revalued-other}
+use Rattle.change_laws.proofs.InstanceRows.{keep-none, keep-all, keep-in}
 use Rattle.change_laws.proofs.AttributeEdits.{Step, took, passed, strip-step, noAttribute, owned-rows}
 
 -- what is stripped, if a test passes
@@ -30,12 +31,6 @@ begins-off : (c : Bytes) (rows : List Row) → ((r : Row) → List·Memᴰ r row
 unfolding begins
 begins-off c [] f = refl
 begins-off c (r ∷ rows) f = f r (List·Memᴰ·head refl)
-
-pub first-same : {A : Type 0} {x y : A} {xs ys : List A} → x ∷ xs ≡ y ∷ ys → x ≡ y
-first-same e = cc
-
-pub not-nil : {A : Type 0} {x : A} {xs : List A} → [] ≡ x ∷ xs → ⊥
-not-nil e = let z : false ≡ true = cc e in false≢true z
 
 -- only the first row matters
 begins-same : (c : Bytes) (r : Row) (rows rows′ : List Row) → begins c (r ∷ rows) ≡ true → begins c (r ∷ rows′) ≡ true
@@ -136,11 +131,7 @@ module _ (n : Bytes) where
     put-first : (rows : List Row) → put [] rows ≡ x ∷ rows
     unfolding member
     put-first [] = refl
-    put-first (r ∷ rows) = put-here [] r rows (by (isAttribute (r .sort)))
-      where
-        by : (c : Bool) → (c && false) ≡ false
-        by true = refl
-        by false = refl
+    put-first (r ∷ rows) = put-here [] r rows (and-false (isAttribute (r .sort)))
 
     -- a name that no row has makes no difference
     put-alike : (c : Bytes) (ns : List Bytes) (rows : List Row) → ((r : Row) → List·Memᴰ r rows → attributeNamed c r ≡ false) → put (c ∷ ns) rows ≡ put ns rows
@@ -277,7 +268,7 @@ module _ (n : Bytes) where
             kept = sym (keep-named r more (is-named c r more b (sym q ∙ ap attributeName z))) ∙ sym (ap (keep (attributeNamed n)) g) ∙ k
 
             mark : m ≡ r .serial
-            mark = l ∙ sym (ap rowSerial (first-same kept))
+            mark = l ∙ sym (ap rowSerial (head-eq-of-cons-eq kept))
 
             fresh : List·Memᴰ (r .serial) (map rowSerial more) → ⊥
             fresh = subst (λ (s : List Row). Distinct (map rowSerial s)) g u .0
@@ -296,7 +287,7 @@ module _ (n : Bytes) where
             → Goal
         by (inl z) (took r more g b w t) h = this z r more g b t
         by (inl z) (passed b s t) h =
-            absurd (not-nil (sym (keep-none (attributeNamed n) rows (λ r j. none-named version n table rows rest p t (out-of c table new (sym (ap attributeName z) ∙ q)) r j)) ∙ k))
+            absurd (nil≢cons (sym (keep-none (attributeNamed n) rows (λ r j. none-named version n table rows rest p t (out-of c table new (sym (ap attributeName z) ∙ q)) r j)) ∙ k))
         by (inr j) (took r more g b w t) h =
             let off : attributeNamed n r ≡ false = not-named c r more b (later-name c table a new j q) in
             let kept : keep (attributeNamed n) more ≡ y ∷ ys = sym (keep-other r more off) ∙ sym (ap (keep (attributeNamed n)) g) ∙ k in

@@ -14,7 +14,7 @@ use Rattle.rules.specs.Conforming.{ElementRows, RowConforms, isElement, isAttri
 use Rattle.rules.specs.Passing.{Good}
 use Rattle.rules.specs.Lines.{lines, elementWith, attributeNamed}
 use Rattle.rules.specs.Change.{setAttribute, destroyAttributeRow, Owned, attributeAt, namesBefore, Plan, making, taking, setting, setAt, setPlan, dropPlan, plan, changed, after}
-use Rattle.rules.proofs.Words.{and-both}
+use Rattle.rules.proofs.Words.{and-both, and-off}
 use Rattle.rules.proofs.Apart.{differs}
 use Rattle.rules.proofs.WellFormedLaws.{definition-good}
 use Rattle.rules.proofs.ConformingLaws.{strip-is, content-is, content-head}
@@ -22,7 +22,7 @@ use Rattle.change_laws.proofs.RowEdits.{rowSerial, keep, plantRows, revalued, c
 use Rattle.change_laws.proofs.Rowwise.{Standing}
 use Rattle.change_laws.proofs.FormLaws.{attribute-owned}
 use Rattle.change_laws.proofs.StandingLaws.{standing-every, children-are, children-once}
-use Rattle.change_laws.proofs.Untouched.{keep-in, keep-alike, map-same, children-left, children-cut, children-kept, same-row, same-child, revalued-other}
+use Rattle.change_laws.proofs.Untouched.{keep-alike, map-same, children-left, children-cut, children-kept, same-row, same-child, revalued-other}
 use Rattle.change_laws.proofs.Numbered.{mapped-row}
 use Rattle.change_laws.proofs.ConformingAfter.{fits-element}
 use Rattle.change_laws.proofs.AttributeEdits.{noAttribute, content-plain}
@@ -30,11 +30,7 @@ use Rattle.document_refusals.proofs.ConformingTests.{conforming-local}
 use Rattle.document_refusals.proofs.ParentLaws.{one-parent}
 use Rattle.document_refusals.proofs.ElementsAfter.{ok, fine, unnumbered, apart, row-fits}
 use Rattle.document_refusals.proofs.AttributeTests.{given, stays, strip-without, put, strip-put, strip-set}
-use Rattle.change_laws.proofs.InstanceRows.{keep-all, plant-not}
-
-and-not : (c : Bool) {b : Bool} → b ≡ false → (c && b) ≡ false
-and-not true e = e
-and-not false e = refl
+use Rattle.change_laws.proofs.InstanceRows.{keep-all, plant-not, keep-in}
 
 keep-of : (test : Row → Bool) (rows : List Row) (y : Row) → List·Memᴰ y rows → test y ≡ true → List·Memᴰ y (keep test rows)
 unfolding keep
@@ -93,7 +89,7 @@ module _ (s : Store) (g : Good s) (r : Row) (b : Forest Row) (i : Standing (s .d
   here = and-both (ap isElement is) (numbers .same← (r .serial) (r .serial) refl)
 
   elsewhere : (u : Row) → (u .serial ≡ r .serial → ⊥) → elementWith (r .serial) u ≡ false
-  elsewhere u f = and-not (isElement (u .sort)) (differs numbers (u .serial) (r .serial) f)
+  elsewhere u f = and-off (isElement (u .sort)) _ (differs numbers (u .serial) (r .serial) f)
 
   -- a row with rows below it is no attribute's
   holds : (u : Row) (c : Forest Row) → Standing (s .docs) u c → (u ≡ r) ⊎ Standing c r b → attributeNamed n u ≡ false
@@ -120,7 +116,7 @@ module _ (s : Store) (g : Good s) (r : Row) (b : Forest Row) (i : Standing (s .d
   drop-conforms =
       unnumbered s g (destroyAttributeRow (r .serial) a)
       ∙ ap (λ (z : Option Owned). conforming (s .version) (s .form) (changed (dropPlan (λ o u. elementWith (r .serial) u) z) (s .docs))) at
-      ∙ conforming-local (s .version) (s .form) (s .next) (s .docs) (g .serials) (fine s g) q refl refl r b i (λ v u c j z. and-not (elementWith (r .serial) v) (holds u c j z))
+      ∙ conforming-local (s .version) (s .form) (s .next) (s .docs) (g .serials) (fine s g) q refl refl r b i (λ v u c j z. and-off (elementWith (r .serial) v) _ (holds u c j z))
       (λ u c j f h. ap₂ (λ (z : Row) (rows : List Row). fitsRow (s .version) (s .form) z rows) (same-row (s .next) (s .docs) (g .serials) q refl u c j)
       (children-kept (s .next) (s .docs) (g .serials) q refl u c j (λ y m. ap (λ (z : Bool). z && attributeNamed n y) (elsewhere u f)) refl)
       ∙ h)

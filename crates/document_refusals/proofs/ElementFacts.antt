@@ -4,12 +4,13 @@ use native.Mathlib.Omega.{arith}
 use mathlib.Core.Path.{_≡_, refl, sym, ap, ap₂, _∙_, subst}
 use mathlib.Core.Logic.{_⊎_, inl, inr, ⊎-elim}
 use mathlib.Core.Bool.{Bool, true, false, _&&_, _||_, not, false≢true}
-use mathlib.Core.Option.{Option, none, some}
+use mathlib.Core.Option.{Option, none, some, Option·some-injective}
 use mathlib.Core.List.{List, [], _∷_, _++_, map, append-nil, List·Memᴰ, List·Memᴰ·head, List·Memᴰ·tail, List·Memᴰ·not-nil}
+use mathlib.Core.List.{nil≢cons, head-eq-of-cons-eq, tail-eq-of-cons-eq}
 use lib.Dec.{eqb}
 use lib.ListN.{length}
 use Rattle.rules.specs.Bytes.{Bytes, any, eqb-eq, eqb-of}
-use Rattle.rules.specs.Store.{Definition, RowSort, element, attribute, text, Row, Forest, heads}
+use Rattle.rules.specs.Store.{Definition, RowSort, element, attribute, text, Row, Forest, heads, Form}
 use Rattle.rules.specs.Preorder.{Deep, flatten}
 use Rattle.rules.specs.Layout.{rowSize, FlatRow, rowCode, rowIndex, indexed, indexOf}
 use Rattle.rules.specs.Decode.{readRow, rowCount}
@@ -26,7 +27,7 @@ use Rattle.change_laws.proofs.Untouched.{keep-alike}
 use Rattle.change_laws.proofs.StandingLaws as standing
 use Rattle.change_laws.proofs.StandingLaws.{standing-every, standing-line, found-stands, one-row}
 use Rattle.layout.specs.Bodies.{widthOf, treeRowsIn}
-use Rattle.lookup.proofs.Laws.{from-step, from-none, some-same}
+use Rattle.lookup.proofs.Laws.{from-step, from-none}
 use Rattle.store_check.proofs.IndexLaws.{Indexed, known-index}
 use Rattle.store_check.proofs.AttributeRows.{rowWritten}
 use Rattle.store_laws.specs.Stores.{storeIn}
@@ -35,7 +36,6 @@ use Rattle.document_refusals.proofs.SuffixLaws.{rowAt}
 use Rattle.document_refusals.proofs.TreeLaws.{ofSort, Located, located-children, seek-tree}
 use Rattle.store_check.proofs.StoreFacts.{formIn, docsIn, Whole}
 use Rattle.plans.proofs.FollowingLaws.{element-code}
-use Rattle.document_refusals.proofs.AttributeTests.{first-same, not-nil}
 use Rattle.rules.proofs.ConformingLaws.{is-element}
 use Rattle.lookup.specs.Bodies.{rowsFrom}
 
@@ -100,13 +100,15 @@ pub record NoElement (bs : Bytes) (k : ℕ) : Type 0 where
   pub found : findRow (elementWith k) (rowsOf (storeIn bs)) ≡ none
   pub there : noElement k (storeIn bs) ≡ true
 
+-- an element that conforms, by its definition
+pub element-conforms : (version : ℕ) (form : Form) (r : Row) (rows : List Row) → r .sort ≡ element → RowConforms version form r rows
+    → (d : Definition) × (lookup (r .name) form ≡ some d) × ElementRows version d rows
+element-conforms version form r rows q x = rw q at x
+
 code-text : (s : RowSort) → eqb (rowCode s) 3 ≡ isText s
 code-text element = refl
 code-text attribute = refl
 code-text text = refl
-
-rest-same : {A : Type 0} {x y : A} {xs ys : List A} → x ∷ xs ≡ y ∷ ys → xs ≡ ys
-rest-same e = cc
 
 module _ (bs : Bytes) (w : Whole bs) where
   -- rows that begin with a row that stands
@@ -116,18 +118,18 @@ module _ (bs : Bytes) (w : Whole bs) where
       where
         by : (i < rowCount bs) ⊎ (rowCount bs ≤ i) → i < rowCount bs
         by (inl h) = h
-        by (inr h) = absurd (not-nil (sym (from-none readRow (rowSize (widthOf bs)) (treeRowsIn bs) (rowCount bs) i h) ∙ b .from ∙ l .rows))
+        by (inr h) = absurd (nil≢cons (sym (from-none readRow (rowSize (widthOf bs)) (treeRowsIn bs) (rowCount bs) i h) ∙ b .from ∙ l .rows))
 
     located-step : rowAt (widthOf bs) (treeRowsIn bs) i ∷ rowsFrom (widthOf bs) (treeRowsIn bs) (rowCount bs) (i + 1)
         ≡ record { depth = l .depth; row = rowWritten (formIn bs) (l .owner) (l .row) } ∷ (flatten (suc (l .depth)) (indexed (formIn bs) (l .row .name) (l .below)) ++ l .rest)
     located-step = sym (from-step readRow (rowSize (widthOf bs)) (treeRowsIn bs) (rowCount bs) i located-below) ∙ b .from ∙ l .rows
 
     pub located-here : rowAt (widthOf bs) (treeRowsIn bs) i ≡ record { depth = l .depth; row = rowWritten (formIn bs) (l .owner) (l .row) }
-    located-here = first-same located-step
+    located-here = head-eq-of-cons-eq located-step
 
     pub located-next : (s : ℕ) → children s (suc (l .depth)) (rowsFrom (widthOf bs) (treeRowsIn bs) (rowCount bs) (i + 1))
         ≡ map (rowWritten (formIn bs) (l .row .name)) (keep (ofSort (formIn bs) s) (heads (l .below)))
-    located-next s = ap (children s (suc (l .depth))) (rest-same located-step) ∙ located-children (formIn bs) l s
+    located-next s = ap (children s (suc (l .depth))) (tail-eq-of-cons-eq located-step) ∙ located-children (formIn bs) l s
 
     -- an element row is the one with its serial
     pub located-element : isElement (l .row .sort) ≡ true → Element bs (l .row .serial) i
@@ -171,7 +173,7 @@ module _ (bs : Bytes) (w : Whole bs) where
           by : Sought (seek p (rowsFrom (widthOf bs) (treeRowsIn bs) (rowCount bs) 0))
               → (l : Located (formIn bs) (docsIn bs) (seek p (rowsFrom (widthOf bs) (treeRowsIn bs) (rowCount bs) 0))) × (q (l .row) (heads (l .below)) ≡ true)
           by (inl x) = x
-          by (inr (f, e)) = absurd (not-nil (sym e ∙ sym (b .from) ∙ from-step readRow (rowSize (widthOf bs)) (treeRowsIn bs) (rowCount bs) i h))
+          by (inr (f, e)) = absurd (nil≢cons (sym e ∙ sym (b .from) ∙ from-step readRow (rowSize (widthOf bs)) (treeRowsIn bs) (rowCount bs) i h))
 
       sought-none : rowCount bs ≤ i → (r : Row) (c : Forest Row) → Standing (docsIn bs) r c → q r (heads c) ≡ false
       sought-none h = by sought
@@ -289,7 +291,7 @@ module _ (bs : Bytes) (w : Whole bs) where
   pub defined : (k i : ℕ) (e : Element bs k i) → Defined k i e
   defined k i e =
       let (d, g, x) =
-      conforms (e .row) (heads (e .below)) (e .sort)
+      element-conforms (storeIn bs .version) (formIn bs) (e .row) (heads (e .below)) (e .sort)
       (standing-every (λ r below. RowConforms (storeIn bs .version) (formIn bs) r below) (docsIn bs) (w .good .docs .rows) (e .row) (e .below) (e .stands)) in
       let n : Indexed (formIn bs) (e .row .name) = known-index (formIn bs) (e .row .name) (ap isThere g) in
       record {
@@ -298,12 +300,8 @@ module _ (bs : Bytes) (w : Whole bs) where
         fits = x;
         index = ap (λ (z : Deep FlatRow). z .row .index) (e .here) ∙ row-index (e .row) (e .owner) (e .sort);
         below = n .below;
-        at = some-same (sym (n .found) ∙ g);
+        at = Option·some-injective _ _ (sym (n .found) ∙ g);
       }
     where
-      conforms : (r : Row) (rows : List Row) → r .sort ≡ element → RowConforms (storeIn bs .version) (formIn bs) r rows
-          → (d : Definition) × (lookup (r .name) (formIn bs) ≡ some d) × ElementRows (storeIn bs .version) d rows
-      conforms r rows q x = rw q at x
-
       row-index : (r : Row) (owner : Bytes) → r .sort ≡ element → rowIndex (formIn bs) owner r ≡ indexOf (r .name) (formIn bs)
       row-index r owner q = rw q

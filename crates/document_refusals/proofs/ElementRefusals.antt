@@ -21,7 +21,6 @@ use Rattle.rules.specs.Change.{addDocument, addElement, destroyElement, nameAtI
 use Rattle.rules.specs.Refusal.{Condition, _if_, first, conditions, past, rowsOf, noElement, badText, isComplex}
 use Rattle.change_laws.proofs.RowEdits.{rowSerial, keep}
 use Rattle.change_laws.proofs.Conditions.{not-past}
-use Rattle.change_laws.proofs.Untouched.{keep-in}
 use Rattle.change_laws.proofs.StandingLaws.{standing-child, standing-every, no-zero, children-are}
 use Rattle.model.specs.Steps.{runs}
 use Rattle.store_check.proofs.IndexLaws.{name-of}
@@ -37,6 +36,7 @@ use Rattle.change_laws.proofs.FirstCondition.{gives-hit, gives-next, gives-none
 use Rattle.document_refusals.proofs.RefusalLaws.{kind-is}
 use Rattle.rules.proofs.ConformingLaws.{is-element}
 use Rattle.rules.proofs.Words.{below-or}
+use Rattle.change_laws.proofs.InstanceRows.{keep-in}
 
 keep-is : (test : Row → Bool) (rows : List Row) (r : Row) → List·Memᴰ r (keep test rows) → test r ≡ true
 unfolding keep

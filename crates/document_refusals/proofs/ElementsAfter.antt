@@ -29,9 +29,10 @@ use Rattle.change_laws.proofs.RowEdits.{rowSerial, keep, plantRows, revalued, c
 use Rattle.change_laws.proofs.Rowwise.{Standing}
 use Rattle.change_laws.proofs.FormLaws.{definition-found}
 use Rattle.change_laws.proofs.StandingLaws.{standing-head, standing-below, standing-serial, one-row, children-are, children-once, children-given}
-use Rattle.change_laws.proofs.Untouched.{keep-in, map-same, children-left, children-cut, children-kept, same-row, same-child}
+use Rattle.change_laws.proofs.Untouched.{map-same, children-left, children-cut, children-kept, same-row, same-child}
 use Rattle.change_laws.proofs.Numbered.{conforming-number}
 use Rattle.change_laws.proofs.ConformingAfter.{conforming-changed, fits-element}
+use Rattle.change_laws.proofs.InstanceRows.{keep-in}
 use Rattle.document_refusals.proofs.ConformingTests.{Clear, conforming-local}
 use Rattle.document_refusals.proofs.ElementTests.{putAt, added, lessened}
 use Rattle.document_refusals.proofs.ParentLaws.{not-below, one-parent}

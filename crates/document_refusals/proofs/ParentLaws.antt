@@ -2,20 +2,14 @@
 use Prim.Native.Nat.{ℕ}
 use mathlib.Core.Path.{_≡_, sym, ap, _∙_, subst}
 use mathlib.Core.Logic.{_⊎_, inl, inr}
-use mathlib.Core.List.{map, List·Memᴰ, List·Memᴰ·tail, List·Memᴰ·cases-cons, Memᴰ·cast, Memᴰ·of-map, Memᴰ·append-left, Memᴰ·append-right}
+use mathlib.Core.List.{map, List·Memᴰ, List·Memᴰ·tail, List·Memᴰ·cases-cons, Memᴰ·cast, Memᴰ·append-left, Memᴰ·append-right}
 use Rattle.rules.specs.Model.{Distinct}
 use Rattle.rules.specs.Store.{Row, Forest, bare, tree, heads}
 use Rattle.rules.specs.Passing.{serials}
 use Rattle.rules.proofs.Correct.{distinct-left, distinct-right, distinct-apart}
 use Rattle.change_laws.proofs.Rowwise.{Standing}
 use Rattle.change_laws.proofs.RowEdits.{rowSerial}
-use Rattle.change_laws.proofs.StandingLaws.{standing-head, standing-serial}
-
-heads-in : (f : Forest Row) (k : ℕ) → List·Memᴰ k (map rowSerial (heads f)) → List·Memᴰ k (serials f)
-heads-in f k m =
-    let (r, i, e) = Memᴰ·of-map rowSerial (heads f) m in
-    let (b, j) = standing-head f r i in
-    Memᴰ·cast (sym e) (standing-serial f r b j)
+use Rattle.change_laws.proofs.StandingLaws.{heads-serials}
 
 below-in : (f : Forest Row) (s : Row) (c : Forest Row) (k : ℕ) → Standing f s c → List·Memᴰ k (serials c) → List·Memᴰ k (serials f)
 below-in bare s c k i m = absurd i
@@ -35,7 +29,7 @@ head-above bare d k h s c i m = absurd i
 head-above (tree r b t) (n, d) k h s c i m = by (List·Memᴰ·cases-cons h) i (head-above t (distinct-right (serials b) (serials t) d) k)
   where
     in-t : List·Memᴰ k (map rowSerial (heads t)) → List·Memᴰ k (serials t)
-    in-t j = heads-in t k j
+    in-t j = heads-serials t k j
 
     by : (k ≡ r .serial) ⊎ List·Memᴰ k (map rowSerial (heads t)) → Standing (tree r b t) s c
         → (List·Memᴰ k (map rowSerial (heads t)) → (s : Row) (c : Forest Row) → Standing t s c → List·Memᴰ k (serials c) → ⊥) → ⊥
@@ -51,16 +45,16 @@ pub one-parent : (f : Forest Row) → Distinct (serials f) → (k : ℕ) (u s : 
 one-parent bare d k u s b c i j p q = absurd i
 one-parent (tree r a t) (n, d) k u s b c (inl (x, y)) (inl (z, w)) p q = sym x ∙ z
 one-parent (tree r a t) (n, d) k u s b c (inl (x, y)) (inr (inl j)) p q =
-    absurd (head-above a (distinct-left (serials a) (serials t) d) k (subst (λ (z : Forest Row). List·Memᴰ k (map rowSerial (heads z))) (sym y) p) s c j (heads-in c k q))
+    absurd (head-above a (distinct-left (serials a) (serials t) d) k (subst (λ (z : Forest Row). List·Memᴰ k (map rowSerial (heads z))) (sym y) p) s c j (heads-serials c k q))
 one-parent (tree r a t) (n, d) k u s b c (inl (x, y)) (inr (inr j)) p q =
-    absurd (distinct-apart (serials a) (serials t) d k (heads-in a k (subst (λ (z : Forest Row). List·Memᴰ k (map rowSerial (heads z))) (sym y) p)) (below-in t s c k j (heads-in c k q)))
+    absurd (distinct-apart (serials a) (serials t) d k (heads-serials a k (subst (λ (z : Forest Row). List·Memᴰ k (map rowSerial (heads z))) (sym y) p)) (below-in t s c k j (heads-serials c k q)))
 one-parent (tree r a t) (n, d) k u s b c (inr (inl i)) (inl (z, w)) p q =
-    absurd (head-above a (distinct-left (serials a) (serials t) d) k (subst (λ (z : Forest Row). List·Memᴰ k (map rowSerial (heads z))) (sym w) q) u b i (heads-in b k p))
+    absurd (head-above a (distinct-left (serials a) (serials t) d) k (subst (λ (z : Forest Row). List·Memᴰ k (map rowSerial (heads z))) (sym w) q) u b i (heads-serials b k p))
 one-parent (tree r a t) (n, d) k u s b c (inr (inl i)) (inr (inl j)) p q = one-parent a (distinct-left (serials a) (serials t) d) k u s b c i j p q
 one-parent (tree r a t) (n, d) k u s b c (inr (inl i)) (inr (inr j)) p q =
-    absurd (distinct-apart (serials a) (serials t) d k (below-in a u b k i (heads-in b k p)) (below-in t s c k j (heads-in c k q)))
+    absurd (distinct-apart (serials a) (serials t) d k (below-in a u b k i (heads-serials b k p)) (below-in t s c k j (heads-serials c k q)))
 one-parent (tree r a t) (n, d) k u s b c (inr (inr i)) (inl (z, w)) p q =
-    absurd (distinct-apart (serials a) (serials t) d k (heads-in a k (subst (λ (z : Forest Row). List·Memᴰ k (map rowSerial (heads z))) (sym w) q)) (below-in t u b k i (heads-in b k p)))
+    absurd (distinct-apart (serials a) (serials t) d k (heads-serials a k (subst (λ (z : Forest Row). List·Memᴰ k (map rowSerial (heads z))) (sym w) q)) (below-in t u b k i (heads-serials b k p)))
 one-parent (tree r a t) (n, d) k u s b c (inr (inr i)) (inr (inl j)) p q =
-    absurd (distinct-apart (serials a) (serials t) d k (below-in a s c k j (heads-in c k q)) (below-in t u b k i (heads-in b k p)))
+    absurd (distinct-apart (serials a) (serials t) d k (below-in a s c k j (heads-serials c k q)) (below-in t u b k i (heads-serials b k p)))
 one-parent (tree r a t) (n, d) k u s b c (inr (inr i)) (inr (inr j)) p q = one-parent t (distinct-right (serials a) (serials t) d) k u s b c i j p q

@@ -19,11 +19,11 @@ abbrev pub rowAt : ℕ → Bytes → ℕ → Deep FlatRow
 rowAt w rows i = readRow (recordAt (rowSize w) i rows)
 
 -- ---- the row that passes a test
-seek-this : (p : Test) (x : Deep FlatRow) (xs : List (Deep FlatRow)) → p (x .row) (children 1 (suc (x .depth)) xs) ≡ true → seek p (x ∷ xs) ≡ x ∷ xs
+pub seek-this : (p : Test) (x : Deep FlatRow) (xs : List (Deep FlatRow)) → p (x .row) (children 1 (suc (x .depth)) xs) ≡ true → seek p (x ∷ xs) ≡ x ∷ xs
 unfolding seek
 seek-this p x xs e = rw (e, seek)
 
-seek-other : (p : Test) (x : Deep FlatRow) (xs : List (Deep FlatRow)) → p (x .row) (children 1 (suc (x .depth)) xs) ≡ false → seek p (x ∷ xs) ≡ seek p xs
+pub seek-other : (p : Test) (x : Deep FlatRow) (xs : List (Deep FlatRow)) → p (x .row) (children 1 (suc (x .depth)) xs) ≡ false → seek p (x ∷ xs) ≡ seek p xs
 unfolding seek
 seek-other p x xs e = rw (e, seek)
 

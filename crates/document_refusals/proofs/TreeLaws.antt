@@ -15,6 +15,7 @@ use Rattle.change_laws.proofs.RowEdits.{keep}
 use Rattle.change_laws.proofs.Rowwise.{Standing}
 use Rattle.store_check.proofs.AttributeRows.{rowWritten}
 use Rattle.document_refusals.specs.Finding.{children, Test, seek}
+use Rattle.document_refusals.proofs.SuffixLaws.{seek-this, seek-other}
 
 -- no row of depth d or more comes first
 abbrev pub Ends : ℕ → List (Deep FlatRow) → Type 0
@@ -109,14 +110,6 @@ module _ (form : Form) where
   -- ---- the first row that passes a test
   module _ (p : Test) (q : Row → List Row → Bool)
       (same : (owner : Bytes) (r : Row) (rows : List Row) → p (rowWritten form owner r) (map (rowWritten form (r .name)) (keep (ofSort 1) rows)) ≡ q r rows) where
-    seek-this : (x : Deep FlatRow) (xs : List (Deep FlatRow)) → p (x .row) (children 1 (suc (x .depth)) xs) ≡ true → seek p (x ∷ xs) ≡ x ∷ xs
-    unfolding seek
-    seek-this x xs e = rw (e, seek)
-
-    seek-other : (x : Deep FlatRow) (xs : List (Deep FlatRow)) → p (x .row) (children 1 (suc (x .depth)) xs) ≡ false → seek p (x ∷ xs) ≡ seek p xs
-    unfolding seek
-    seek-other x xs e = rw (e, seek)
-
     abbrev Met : Forest Row → List (Deep FlatRow) → Type 0
     Met f xs = (l : Located f xs) × (q (l .row) (heads (l .below)) ≡ true)
 
@@ -164,14 +157,14 @@ module _ (form : Form) where
                 depth = d;
                 rest = written d owner t ++ rest;
                 stands = inl (refl, refl);
-                rows = ap (seek p) joined ∙ seek-this x more (test ∙ e);
+                rows = ap (seek p) joined ∙ seek-this p x more (test ∙ e);
                 ends = ends-after d owner t rest h;
               },
               e,
             )
-        by false e (inl m) n = inl (lift c (λ s b i. inr (inl i)) (ap (seek p) joined ∙ seek-other x more (test ∙ e)) m)
-        by false e (inr (m, g)) (inl n) = inl (lift t (λ s b i. inr (inr i)) (ap (seek p) joined ∙ seek-other x more (test ∙ e) ∙ g) n)
-        by false e (inr (m, g)) (inr (n, k)) = inr (none, ap (seek p) joined ∙ seek-other x more (test ∙ e) ∙ g ∙ k)
+        by false e (inl m) n = inl (lift c (λ s b i. inr (inl i)) (ap (seek p) joined ∙ seek-other p x more (test ∙ e)) m)
+        by false e (inr (m, g)) (inl n) = inl (lift t (λ s b i. inr (inr i)) (ap (seek p) joined ∙ seek-other p x more (test ∙ e) ∙ g) n)
+        by false e (inr (m, g)) (inr (n, k)) = inr (none, ap (seek p) joined ∙ seek-other p x more (test ∙ e) ∙ g ∙ k)
           where
             none : (s : Row) (b : Forest Row) → Standing (tree r c t) s b → q s (heads b) ≡ false
             none s b (inl (u, v)) = ap₂ (λ (y : Row) (z : Forest Row). q y (heads z)) (sym u) (sym v) ∙ e

@@ -4,7 +4,7 @@ use native.Mathlib.Omega.{arith}
 use native.Mathlib.Numerals.{add-one, sub-one}
 use mathlib.Core.Path.{_≡_, refl, sym, ap, subst, _∙_}
 use mathlib.Core.Logic.{_↔_}
-use mathlib.Core.Bool.{Bool, true, false, not, _&&_, _||_}
+use mathlib.Core.Bool.{Bool, true, false, not, _&&_, _||_, and-false}
 use mathlib.Core.List.{List}
 use borrow.Author.Tests.{not-true, not-false, le-ltb, eqb-true, eqb-false, ne-eqb, not-true as has-not}
 use lib.Dec.{eqb, ltb}
@@ -92,11 +92,7 @@ module _ (version w n : ℕ) (attrs : Bytes) (j : ℕ) (t : List ℕ) (o : ℕ) 
   not-wanted f = record { apart = apart-same t; wanted = λ i k h m. stays (has (getD t (68 * i + 67) 0) k) (wants version w attrs i j) (eqb k j) (sym (r i) ∙ f i h) }
 
   pub need-other : not s ≡ true → OneNeed version w n attrs j t t
-  need-other h = not-wanted (λ i m. ap (λ (b : Bool). eqb o i && b) (not-true s h) ∙ by (eqb o i))
-    where
-      by : (b : Bool) → (b && false) ≡ false
-      by true = refl
-      by false = refl
+  need-other h = not-wanted (λ i m. ap (λ (b : Bool). eqb o i && b) (not-true s h) ∙ and-false (eqb o i))
 
   pub need-past : n ≤ o → OneNeed version w n attrs j t t
   need-past h = not-wanted (λ i m. ap (λ (b : Bool). b && s) (ne-eqb o i (λ z. omega arith)))

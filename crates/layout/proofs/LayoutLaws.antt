@@ -83,16 +83,11 @@ pub window-by : (s r : Bytes) (at n m k : ℕ) → m ≡ k → n ≡ m → r ≡
 window-by s r at n m k e g h = h ∙ ap (λ (j : ℕ). windowOf at j s) (g ∙ e)
 
 -- ---- fields that stand after another
-pub get-after : (k i : ℕ) (s : Bytes) → getD (drop k s) i 0 ≡ getD s (k + i) 0
-get-after zero i s = ap (λ (j : ℕ). getD s j 0) (omega arith)
-get-after (suc k) i [] = refl
-get-after (suc k) i (x ∷ s) = let e : suc k + i ≡ suc (k + i) = omega arith in rw e (get-after k i s)
-
 pub number-after : (k at n : ℕ) (s : Bytes) → numberAt at n (drop k s) ≡ numberAt (k + at) n s
 number-after k at n s = rw (drop-drop at k s)
 
 pub attribute-value-by : (s r : Bytes) (n m : ℕ) → m ≡ getD s 19 0 → n ≡ m → r ≡ windowOf 20 n s → r ≡ readAttribute s .value
-attribute-value-by s r n m e g h = window-by s r 20 n m (getD s 19 0) e g h ∙ rw (drop-drop 2 18 s, get-after 18 1 s)
+attribute-value-by s r n m e g h = window-by s r 20 n m (getD s 19 0) e g h ∙ rw (drop-drop 2 18 s, getD-drop 18 s 1 0)
 
 -- the bytes of a row that no field has
 pub unused-of : (w : ℕ) (bs : Bytes) (x y z : ℕ) → x ≡ getD bs rowUnusedAt 0 → y ≡ getD bs (rowValueAt + w) 0 → z ≡ getD bs (rowValueAt + 1 + w) 0 → (eqb x 0 && (eqb y 0 && eqb z 0)) ≡ unusedFit w bs

@@ -1,7 +1,7 @@
 -- Laws of the look-up.
 use mathlib.Core.Path.{_≡_, refl, sym, ap, ap₂, _∙_, subst}
 use mathlib.Core.Bool.{Bool, true, false, false≢true}
-use mathlib.Core.Option.{Option, none, some}
+use mathlib.Core.Option.{Option, none, some, Option·some-injective}
 use mathlib.Core.List.{List, [], _∷_}
 use Prim.Native.Nat.{ℕ, zero, suc, _+_, _-_, _*_, _<_, _≤_}
 use native.Mathlib.Omega.{arith}
@@ -158,9 +158,6 @@ module _ (bs : Bytes) (i : ℕ) where
       (sym (sort-other (widthOf bs) (bodiesOf bs) found-row e)) (record { number-is = refl; start-is = sym value-start; length-is = refl })
 
 -- ---- the part is the row's value
-pub some-same : {A : Type 0} {x y : A} → some x ≡ some y → x ≡ y
-some-same e = cc
-
 take-front : (n : ℕ) (x : Bytes) (k : ℕ) → take (length (take n (take k x))) x ≡ take n (take k x)
 take-front zero x k = refl
 take-front (suc n) [] zero = refl
@@ -196,7 +193,7 @@ found-where w k i (suc m) t n h = by (eqb (readRow (take (rowSize w) t) .row .se
         → (j : ℕ) × (n .at ≡ i + j) × (n .row ≡ rowAt w t j)
     by true e later =
         let q : n ≡ record { at = i; row = readRow (take (rowSize w) t) .row } =
-        some-same (sym h ∙ row-this k i (readRow (take (rowSize w) t)) (readMany readRow (rowSize w) m (drop (rowSize w) t)) (eqb-true _ _ e)) in
+        Option·some-injective _ _ (sym h ∙ row-this k i (readRow (take (rowSize w) t)) (readMany readRow (rowSize w) m (drop (rowSize w) t)) (eqb-true _ _ e)) in
         (0, ap (λ (x : Numbered). x .at) q ∙ sym (add-zero i), ap (λ (x : Numbered). x .row) q ∙ row-first w t)
     by false e later =
         let (j, p, q) = later (sym (row-other k i (readRow (take (rowSize w) t)) (readMany readRow (rowSize w) m (drop (rowSize w) t)) (λ g. false≢true (sym e ∙ eq-eqb _ _ g))) ∙ h) in

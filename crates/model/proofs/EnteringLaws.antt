@@ -26,7 +26,8 @@ use Rattle.model.specs.declared.place.Found.the-variants.{At, Absent}
 use Rattle.model.specs.Particle.{particleOf}
 use Rattle.model.specs.Members.{particlesOf}
 use Rattle.model.specs.Places.{Particles, noParticle, reach, spanOf, atMember, atGap, lastOf, enterGroup, enteredAt, enteredOf, spotOf, top, placeIn}
-use Rattle.model.proofs.ParticleLaws.{particle-at, particles-drop, length-particles, Bounded, reach-bounded, span-bounded}
+use Rattle.model.proofs.ParticleLaws.{particle-at, length-particles, Bounded, reach-bounded, span-bounded}
+use Rattle.model.proofs.MembersLaws.{particles-past}
 
 -- ---- the last number
 module _ (h : Holder) (r w : Reached) (e : r ≡ w) where
@@ -71,7 +72,7 @@ module _ (h : Holder) (p : ℕ) (s : Bytes) (x : Particle) (l : particleSize * p
       → size ≡ spanOf (h .depth) (particlesOf (take (length s - particleSize * (p + 1)) (drop (particleSize * (p + 1)) s))) → b ≡ plain (x .quantifier) k
       → Inside (record { start = h .start + (p + 1); depth = h .depth + 1; kind = k; spine = h .spine && b }) (p + 1) size ≡ enteredAt h (particlesOf s) (Member p)
   enter-group k n size b w m c =
-      let t : size ≡ spanOf (h .depth) (drop (p + 1) (particlesOf s)) = m ∙ rw (tail-seen s (particleSize * (p + 1)), particles-drop (p + 1) s (omega arith)) in
+      let t : size ≡ spanOf (h .depth) (drop (p + 1) (particlesOf s)) = m ∙ rw (tail-seen s (particleSize * (p + 1)), particles-past (p + 1) s) in
       rw (here, w, t, c)
 
 -- ---- a place

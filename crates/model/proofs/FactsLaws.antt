@@ -55,11 +55,7 @@ follow-assoc false false false true true nb true true = refl
 follow-assoc false false false true true nb true false = refl
 follow-assoc false false false true false nb true c = refl
 follow-assoc false false false true true nb false true = refl
-follow-assoc false false false true true nb false false = by nb
-  where
-    by : (nb : Bool) → false ≡ (nb && false)
-    by true = refl
-    by false = refl
+follow-assoc false false false true true nb false false = sym (and-false nb)
 follow-assoc false false false true false nb false c = ap (λ (b : Bool). b && c) (and-true nb)
 
 pub join-left : (k : GroupKind) (f : Facts) → join k (empty k) f ≡ f

@@ -1,6 +1,6 @@
 -- The particles of a byte string: how many, which stands where, and
 -- those of a part. Bounds on what is passed and measured.
-use mathlib.Core.Path.{_≡_, refl, sym, ap, _∙_}
+use mathlib.Core.Path.{_≡_, sym, ap, _∙_}
 use mathlib.Core.Bool.{Bool, true, false}
 use mathlib.Core.List.{List, [], _∷_}
 use Prim.Native.Nat.{ℕ, zero, suc, _+_, _*_, _/_, _<_, _≤_}
@@ -20,7 +20,7 @@ use Rattle.model.specs.declared.place.Reached.{Reached}
 use Rattle.model.specs.declared.place.Reached.the-variants.{Member, End, Few}
 use Rattle.model.specs.Members.{indexMembers, particlesOf, membersFrom, allMembers}
 use Rattle.model.specs.Places.{Particles, noParticle, onward, reach, spanOf}
-use Rattle.model.proofs.MembersLaws.{members-named, particles-few, particles-more}
+use Rattle.model.proofs.MembersLaws.{members-named, particles-few, particles-more, particles-past}
 
 -- ---- the particles of a byte string
 pub length-particles : (s : Bytes) → length (particlesOf s) ≡ length s / particleSize
@@ -32,12 +32,6 @@ particle-at zero s h = rw (particles-more s (omega arith))
 particle-at (suc p) s h =
     let e : particleSize * suc p ≡ particleSize + particleSize * p = omega arith in
     rw (particles-more s (omega arith), e, ← drop-drop (particleSize * p) particleSize s) (particle-at p (drop particleSize s) (omega (arith, length-drop particleSize s)))
-
-pub particles-drop : (k : ℕ) (s : Bytes) → particleSize * k ≤ length s → particlesOf (drop (particleSize * k) s) ≡ drop k (particlesOf s)
-particles-drop zero s h = refl
-particles-drop (suc k) s h =
-    let e : particleSize * suc k ≡ particleSize + particleSize * k = omega arith in
-    rw (particles-more s (omega arith), e, ← drop-drop (particleSize * k) particleSize s) (particles-drop k (drop particleSize s) (omega (arith, length-drop particleSize s)))
 
 pub particles-take : (k : ℕ) (s : Bytes) → particleSize * k ≤ length s → particlesOf (take (particleSize * k) s) ≡ take k (particlesOf s)
 particles-take zero s h = particles-few [] (omega arith)
@@ -52,7 +46,7 @@ particles-take (suc k) (a ∷ b ∷ c ∷ e ∷ s) h =
 
 pub particles-part : (at n : ℕ) (s : Bytes) → particleSize * at + particleSize * n ≤ length s → particlesOf (partOf (particleSize * at) (particleSize * n) s) ≡ take n (drop at (particlesOf s))
 particles-part at n s h =
-    rw (part-there (particleSize * at) (particleSize * n) s h, particles-take n (drop (particleSize * at) s) (omega (arith, length-drop (particleSize * at) s)), particles-drop at s (omega arith))
+    rw (part-there (particleSize * at) (particleSize * n) s h, particles-take n (drop (particleSize * at) s) (omega (arith, length-drop (particleSize * at) s)), particles-past at s)
 
 -- ---- a definition's part of the particle body
 -- The n particles from number m on, of a body that has `count`: the form's model of them is that of their bytes, each

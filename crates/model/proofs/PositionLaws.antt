@@ -35,7 +35,7 @@ length-spread d done = refl
 length-spread d (el q i rest) = ap suc (length-spread d rest)
 length-spread d (group q k ms rest) = ap suc (length-append (spread (suc d) ms) (spread d rest) ∙ ap₂ (λ (i j : ℕ). i + j) (length-spread (suc d) ms) (length-spread d rest))
 
-many-named : (f : Bytes → ℕ) (ms : Members Bytes) → howMany (rename f ms) ≡ howMany ms
+pub many-named : {A B : Type 0} (f : A → B) (ms : Members A) → howMany (rename f ms) ≡ howMany ms
 unfolding rename
 many-named f done = refl
 many-named f (el q i rest) = ap suc (many-named f rest)
@@ -47,7 +47,7 @@ unfolding rename
 spread-named form d done = refl
 spread-named form d (el q i rest) = ap (λ (l : Particles). elementParticle d q (indexOf i form) ∷ l) (spread-named form d rest)
 spread-named form d (group q k ms rest) =
-    ap₂ (λ (n : ℕ) (l : Particles). groupParticle d q k n ∷ l) (sym (many-named (λ n. indexOf n form) ms))
+    ap₂ (λ (n : ℕ) (l : Particles). groupParticle d q k n ∷ l) (sym (many-named (λ (n : Bytes). indexOf n form) ms))
     (ap₂ (λ (u v : Particles). u ++ v) (spread-named form (suc d) ms) (spread-named form d rest))
 
 -- A CHANGE AT A PLACE: the particles before it and after it stay, but for the member count of the group around it

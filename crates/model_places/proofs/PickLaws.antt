@@ -30,7 +30,7 @@ use Rattle.model.specs.Members.{particlesOf}
 use Rattle.model.specs.Places.{Particles, noParticle, placeIn}
 use Rattle.model.specs.Positions.{elementParticle, groupParticle, spread, leading, trailing, level}
 use Rattle.model.proofs.ParticleLaws.{length-particles, particle-at}
-use Rattle.model.proofs.PositionLaws.{spread-plug, length-leading}
+use Rattle.model.proofs.PositionLaws.{spread-plug, length-leading, many-named}
 use Rattle.form_index.specs.Reading.{definitionIn, particlesBefore, modelPart}
 use Rattle.layout.specs.Bodies.{shapeOf, particleBody, definitionsIn, particlesIn}
 use Rattle.change_laws.specs.FirstCondition.{Gives}
@@ -117,12 +117,6 @@ module _ {bs : Bytes} {o : ℕ} {i : Bool} {place : List ℕ} {h : Holder} {p : 
 code-group : (k : GroupKind) (n : ℕ) → whatOf (groupCode k) n ≡ what.Group k n
 code-group Sequence n = refl
 code-group Choice n = refl
-
-many-named : {A B : Type 0} (f : A → B) (ms : Members A) → howMany (rename f ms) ≡ howMany ms
-unfolding rename
-many-named f done = refl
-many-named f (el q i rest) = ap suc (many-named f rest)
-many-named f (group q k ms rest) = ap suc (many-named f rest)
 
 abbrev pub pickIn : Bytes → ℕ → Holder → ℕ → Picked
 pickIn bs o h p = pickOf h p (particleOf (readParticle (drop (particleSize * p) (partIn bs o))) .quantifier) (particleOf (readParticle (drop (particleSize * p) (partIn bs o))) .what)

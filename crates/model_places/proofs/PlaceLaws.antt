@@ -3,7 +3,7 @@ use Prim.Native.Nat.{ℕ, _+_, _*_, _<_, _≤_}
 use native.Mathlib.Omega.{arith}
 use mathlib.Core.Path.{_≡_, refl, sym, ap, _∙_}
 use mathlib.Core.Bool.{Bool, true, false, false≢true}
-use mathlib.Core.Option.{Option, none, some}
+use mathlib.Core.Option.{Option, none, some, Option·none-ne-some}
 use mathlib.Core.List.{List, _++_}
 use lib.Dec.{leb}
 use lib.ListN.{length, drop, length-append}
@@ -27,7 +27,7 @@ use Rattle.model.specs.declared.place.Found.the-variants.{At, Absent}
 use Rattle.model.specs.Members.{indexMembers, particlesOf, membersFrom, allMembers}
 use Rattle.model.specs.Places.{Particles, top, spotOf, placeIn, lastBy, PlaceTold, told, shown}
 use Rattle.model.specs.Positions.{spread, offset, holder, spotIn, leading, trailing, level}
-use Rattle.model.proofs.ParticleLaws.{length-particles, particles-drop}
+use Rattle.model.proofs.ParticleLaws.{length-particles}
 use Rattle.model.proofs.FindLaws.{found-placed}
 use Rattle.model.proofs.PositionLaws.{place-spot, spread-plug, length-leading}
 use Rattle.model.proofs.WrittenLaws.{particles-written, members-written}
@@ -35,7 +35,7 @@ use Rattle.model.proofs.NamedPlaces.{renameFound, find-gap-named, find-nth-name
 use Rattle.store_laws.specs.Stores.{storeIn}
 use Rattle.model_places.specs.Placing.{indexOfName, modelIn, partIn, leads, foundBy, Placed}
 use Rattle.model_places.proofs.OwnParts.{own-particles}
-use Rattle.rules.proofs.ConformingLaws.{none-some}
+use Rattle.model.proofs.MembersLaws.{particles-past}
 
 -- ---- the places of the changes
 pub found-remove : (o : ℕ) (p : List ℕ) (bs : Bytes) → foundAt remove o p (storeIn bs) ≡ foundBy false p (modelIn bs o)
@@ -80,7 +80,7 @@ found-right {A} i place ms x e = by (leb (length place) 5) e
   where
     by : (b : Bool) → elim b as (λ z. Option (Spot A)) [ true ↦ leads i place ms | false ↦ none ] ≡ some x → plug (x .context) (x .picked) ≡ ms
     by true e = leads-right i place ms x e
-    by false e = absurd (none-some e)
+    by false e = absurd (Option·none-ne-some _ e)
 
 -- ---- in the part of a definition
 abbrev pickedOf : Option PlaceTold → Members ℕ
@@ -173,7 +173,7 @@ module _ (bs : Bytes) (pass : passes bs ≡ true) (o : ℕ) (l : o < definitionC
 
         members-at : membersFrom (h .depth) (drop (particleSize * p) (partIn bs o)) ≡ chosen
         unfolding membersFrom
-        members-at = ap (λ (xs : Particles). indexMembers (build xs (h .depth))) (particles-drop p (partIn bs o) long) ∙ ap pickedOf same-told
+        members-at = ap (λ (xs : Particles). indexMembers (build xs (h .depth))) (particles-past p (partIn bs o)) ∙ ap pickedOf same-told
 
         there-is : Placed bs o i place h p
         there-is =

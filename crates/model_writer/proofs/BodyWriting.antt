@@ -11,6 +11,7 @@ use Rattle.rules.specs.Bytes.{Bytes}
 use Rattle.rules.specs.Preorder.{Deep}
 use Rattle.rules.specs.Layout.{FlatParticle, particleBytes, each, particleSize}
 use Rattle.rules.specs.Edit.{Edit, insert, remove, quantify, convert, flatten}
+use Rattle.rules.proofs.LayoutLaws.{each-append}
 use Rattle.model.specs.declared.place.Holder.{Holder}
 use Rattle.model.specs.Members.{particlesOf}
 use Rattle.model.specs.Places.{Particles}
@@ -18,7 +19,7 @@ use Rattle.model_writer.specs.Spliced.{spliced}
 use Rattle.model_writer.specs.PartAfter.{lower, moved, tailAfter, countAfter, recounted, partAfter, lengthAfter, inserts}
 use Rattle.model_writer.specs.Writing.{Part, particleRange, EditPart}
 use Rattle.model_writer.proofs.WritingLaws.{whole}
-use Rattle.model_writer.proofs.HeadWriting.{each-append, each-drop, take-bytes, length-bytes, length-recounted, length-part}
+use Rattle.model_writer.proofs.HeadWriting.{each-drop, take-bytes, length-bytes, length-recounted, length-part}
 
 length-moved : (g : ℕ → ℕ) (d n : ℕ) (xs : Particles) → length (moved g d n xs) ≡ length xs
 unfolding moved
@@ -81,9 +82,9 @@ spliced-bytes : (first k : ℕ) (part : Particles) (parts : Bytes) → length pa
     → each particleBytes (spliced first k part (particlesOf parts)) ≡ take (particleSize * first) (drop 0 parts) ++ (each particleBytes part ++ drop (particleSize * (first + k)) parts)
 spliced-bytes first k part parts h =
     let xs : Particles = particlesOf parts in
-    each-append (take first xs) (part ++ drop (first + k) xs)
+    each-append particleBytes (take first xs) (part ++ drop (first + k) xs)
     ∙ ap₂ (λ (s t : Bytes). s ++ t) (take-bytes first parts h)
-    (each-append part (drop (first + k) xs) ∙ ap (λ (s : Bytes). each particleBytes part ++ s) (sym (each-drop (first + k) xs) ∙ ap (drop (particleSize * (first + k))) (whole parts h)))
+    (each-append particleBytes part (drop (first + k) xs) ∙ ap (λ (s : Bytes). each particleBytes part ++ s) (sym (each-drop (first + k) xs) ∙ ap (drop (particleSize * (first + k))) (whole parts h)))
 
 pub body-bytes : {e : Edit ℕ} {h : Holder} {n first k : ℕ} {parts : Bytes} → EditPart e h n first k parts
     → each particleBytes (spliced first k (partAfter e h n (particlesOf (particleRange first k parts))) (particlesOf parts))

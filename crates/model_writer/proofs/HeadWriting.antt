@@ -12,7 +12,7 @@ use Rattle.rules.specs.Decode.{readParticle}
 use Rattle.rules.specs.Edit.{Edit}
 use Rattle.rules.proofs.BooleanLaws.{Every, every-left, every-right}
 use Rattle.rules.proofs.LayoutLaws as layout
-use Rattle.rules.proofs.LayoutLaws.{SmallParticle, length-each, length-particle}
+use Rattle.rules.proofs.LayoutLaws.{SmallParticle, length-each, length-particle, each-append}
 use Rattle.codec.specs.Laid.{Laid}
 use Rattle.model.specs.declared.place.Holder.{Holder}
 use Rattle.model.specs.Members.{particlesOf}
@@ -37,9 +37,6 @@ first-index (a ∷ b ∷ c ∷ []) h = absurd (omega arith)
 first-index (a ∷ b ∷ c ∷ e ∷ s) h = ap (λ (xs : Particles). getD xs 0 noParticle .row .index) (particles-more (a ∷ b ∷ c ∷ e ∷ s) (omega arith))
 
 -- ---- parts of particle bytes
-pub each-append : (xs ys : Particles) → each particleBytes (xs ++ ys) ≡ each particleBytes xs ++ each particleBytes ys
-each-append [] ys = refl
-each-append (x ∷ xs) ys = ap (λ (s : Bytes). particleBytes x ++ s) (each-append xs ys)
 
 pub each-take : (n : ℕ) (xs : Particles) → take (particleSize * n) (each particleBytes xs) ≡ each particleBytes (take n xs)
 each-take n xs = layout.each-take particleBytes particleSize length-particle n xs
@@ -126,7 +123,7 @@ module _ {e : Edit ℕ} {first n : ℕ} {part : Bytes} {at : ℕ} (v : Head e fi
       ∙ ap (take (particleSize * (n - first))) (sym (each-drop first (particlesOf part)) ∙ ap (drop (particleSize * first)) (whole part (v .whole)))
       ∙ (λ i. take (q i) (drop (p i) part)) in
       ap (each particleBytes) (head-is l)
-      ∙ each-append (take (first - 1) (particlesOf part)) (x ∷ take (n - first) (drop first (particlesOf part)))
+      ∙ each-append particleBytes (take (first - 1) (particlesOf part)) (x ∷ take (n - first) (drop first (particlesOf part)))
       ∙ ap₂ (λ (s t : Bytes). s ++ (particleBytes x ++ t)) (take-bytes (first - 1) part (v .whole)) back
 
   -- the new count is a byte
@@ -194,7 +191,7 @@ module _ {e : Edit ℕ} {h : Holder} {n : ℕ} {part : Bytes} (v : Part e h n pa
       ++ each particleBytes (tailAfter e (h .depth) (particlesOf (drop (particleSize * n) part)))
   unfolding partAfter
   part-bytes =
-      each-append (recounted (countAfter e (drop n (particlesOf part))) (h .start) (take n (particlesOf part))) (tailAfter e (h .depth) (drop n (particlesOf part)))
+      each-append particleBytes (recounted (countAfter e (drop n (particlesOf part))) (h .start) (take n (particlesOf part))) (tailAfter e (h .depth) (drop n (particlesOf part)))
       ∙ ap
       (λ (xs : Particles). each particleBytes (recounted (countAfter e (drop n (particlesOf part))) (h .start) (take n (particlesOf part)))
       ++ each particleBytes (tailAfter e (h .depth) xs))

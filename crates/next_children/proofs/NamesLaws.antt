@@ -1,6 +1,6 @@
 -- An element that no particle names has no place in a word of the model.
 use mathlib.Core.Path.{_≡_, refl, sym, ap, _∙_}
-use mathlib.Core.Bool.{Bool, true, false, _&&_, false≢true}
+use mathlib.Core.Bool.{Bool, true, false, false≢true, and-false}
 use Prim.Native.Nat.{ℕ, zero, suc, _-_, _<_, _≤_}
 use native.Mathlib.Omega.{arith}
 use borrow.Author.Tests.{ltb-true, ltb-false, eqb-true, eqb-false, ne-eqb, eq-eqb}
@@ -34,11 +34,7 @@ never-empty Sequence = record { last-not = refl; follow-not = refl }
 never-empty Choice = record { last-not = refl; follow-not = refl }
 
 never-join : (k : GroupKind) (f g : Facts) → Never f → Never g → Never (join k f g)
-never-join Sequence f g t u = record { last-not = rw (t .last-not, u .last-not) (by (g .nothing)); follow-not = rw (t .follow-not, u .follow-not, t .last-not) }
-  where
-    by : (b : Bool) → (b && false) ≡ false
-    by true = refl
-    by false = refl
+never-join Sequence f g t u = record { last-not = rw (t .last-not, u .last-not) (and-false (g .nothing)); follow-not = rw (t .follow-not, u .follow-not, t .last-not) }
 never-join Choice f g t u = record { last-not = rw (t .last-not, u .last-not); follow-not = rw (t .follow-not, u .follow-not) }
 
 never-quantify : (q : Quantifier) (f : Facts) → Never f → Never (quantify q f)

@@ -29,8 +29,9 @@ use Rattle.model.specs.declared.place.Holder.{Holder}
 use Rattle.model.specs.Members.{particlesOf}
 use Rattle.model.specs.Places.{Particles, top, spanOf}
 use Rattle.model.specs.Positions.{groupParticle, spread, count, leading, trailing, level}
-use Rattle.model.proofs.ParticleLaws.{length-particles, particles-drop, particles-take}
+use Rattle.model.proofs.ParticleLaws.{length-particles, particles-take}
 use Rattle.model.proofs.PositionLaws.{length-spread, spread-plug, length-leading}
+use Rattle.model.proofs.MembersLaws.{particles-past}
 use Rattle.store_check.proofs.IndexLaws.{namesOf, index-same}
 use Rattle.store_laws.specs.Stores.{storeIn}
 use Rattle.plans.specs.ModelCalls.{Marked}
@@ -38,7 +39,7 @@ use Rattle.store_check.proofs.StoreFacts.{formIn, Whole, whole}
 use Rattle.model_places.specs.Placing.{indexOfName, modelIn, partIn, Placed}
 use Rattle.model_places.proofs.PlaceLaws.{found-right}
 use Rattle.model_writer.proofs.HeadAfter.{depth-holder}
-use Rattle.model_places.proofs.PickLaws.{around, from-there, one-there}
+use Rattle.model_places.proofs.PickLaws.{around, from-there}
 use Rattle.place_marks.specs.Marking.{marksAt}
 use Rattle.place_marks.proofs.ReadLaws.{among, markBy, marks-read, mark-one, mark-two}
 use Rattle.place_marks.proofs.ElementLaws.{elements-read, elements-spread, elements-leading}
@@ -81,7 +82,7 @@ module _ {bs : Bytes} {o : ℕ} {i : Bool} {place : List ℕ} {h : Holder} {p : 
   module _ (d : ℕ) (one : Members ℕ) (ys : Particles) (next : drop p (particlesOf (partIn bs o)) ≡ spread d one ++ ys) where
     at-elements : elementsOf (take (particleSize * count one) (drop (particleSize * p) (partIn bs o))) ≡ names one
     at-elements =
-        let e : particlesOf (drop (particleSize * p) (partIn bs o)) ≡ spread d one ++ ys = particles-drop p (partIn bs o) (x .inside) ∙ next in
+        let e : particlesOf (drop (particleSize * p) (partIn bs o)) ≡ spread d one ++ ys = particles-past p (partIn bs o) ∙ next in
         let room : particleSize * count one ≤ length (drop (particleSize * p) (partIn bs o)) =
         omega (arith, ap length e, length-particles (drop (particleSize * p) (partIn bs o)), length-append (spread d one) ys, length-spread d one) in
         elements-read (take (particleSize * count one) (drop (particleSize * p) (partIn bs o)))
@@ -171,9 +172,8 @@ module _ {bs : Bytes} {o : ℕ} {i : Bool} {place : List ℕ} {h : Holder} {p : 
     group-span : spanOf (h .depth) (particlesOf (drop (particleSize * (p + 1)) (partIn bs o))) ≡ count (rename (indexOfName bs) ms)
     group-span =
         let depth : h .depth ≡ lev = ap (λ (g : Holder). g .depth) (sym (x .held)) ∙ depth-holder top 0 (around x) in
-        let room : particleSize * (p + 1) ≤ length (partIn bs o) = omega (arith, one-there x front (inner ++ others) group-next) in
         let after-front : particlesOf (drop (particleSize * (p + 1)) (partIn bs o)) ≡ inner ++ others =
-        particles-drop (p + 1) (partIn bs o) room ∙ sym (drop-drop 1 p (particlesOf (partIn bs o))) ∙ ap (λ (l : Particles). drop 1 l) group-next in
+        particles-past (p + 1) (partIn bs o) ∙ sym (drop-drop 1 p (particlesOf (partIn bs o))) ∙ ap (λ (l : Particles). drop 1 l) group-next in
         ap₂ (λ (d : ℕ) (l : Particles). spanOf d l) depth after-front ∙ span-group (around x) (rename (indexOfName bs) ms) (rename (indexOfName bs) rest)
 
     pub group-marked : Marked (storeIn bs .form) (beforePlace (x .found .context)) (names ms)

@@ -4,7 +4,7 @@ use Prim.Native.Nat.{ℕ, suc, _+_, _<_, _≤_}
 use native.Mathlib.Omega.{arith}
 use mathlib.Core.Path.{_≡_, refl, sym, ap, _∙_, subst}
 use mathlib.Core.Logic.{_⊎_, inl, inr}
-use mathlib.Core.Bool.{Bool, true, false, _&&_, not, and-false, false≢true}
+use mathlib.Core.Bool.{Bool, true, false, _&&_, not, and-false, false≢true, and-comm}
 use mathlib.Core.Option.{Option, none, some}
 use mathlib.Core.List.{List, [], _∷_, _++_, map, List·Memᴰ, Memᴰ·map}
 use lib.Dec.{eqb, ltb}
@@ -57,12 +57,6 @@ use Rattle.plans.proofs.OwnedRows.{Owns, each-owned}
 use Rattle.plans.proofs.DocumentPlans.{given}
 use Rattle.plans.proofs.CallsPlanned.{owned-there}
 use Rattle.plans.proofs.Instances.{apart-instances}
-
-pub and-swap : (a b : Bool) → (a && b) ≡ (b && a)
-and-swap true true = refl
-and-swap true false = refl
-and-swap false true = refl
-and-swap false false = refl
 
 module _ (s : Store) (g : good s ≡ true) where
   once : Distinct (map definitionName (s .form))
@@ -121,7 +115,7 @@ module _ (s : Store) (g : good s ≡ true) where
               index-moved (s .form) new p (u .name) r refl (index-kept (withAttributes more) (λ d. refl) o (s .form) (r .name))
               (λ e. let (j, (d, f, m)) = own e in added-shift o (s .form) once l (u .name) d f (r .name) m (newAttribute n k v));
           value = value-same r v [] (given s g r b i);
-          fills = ap (λ (c : Bool). c && mustBePresent (s .version) (sortOf k)) (element-test (s .form) once o l (u .name) r) ∙ and-swap (elementNamed name r) (mustBePresent (s .version) (sortOf k));
+          fills = ap (λ (c : Bool). c && mustBePresent (s .version) (sortOf k)) (element-test (s .form) once o l (u .name) r) ∙ and-comm (elementNamed name r) (mustBePresent (s .version) (sortOf k));
           filling = λ e.
               filled (r .name) (same-eq name (r .name) (and-split (isElement (r .sort)) (same name (r .name)) (and-split (mustBePresent (s .version) (sortOf k)) (elementNamed name r) e .1) .1));
         }

@@ -1,7 +1,7 @@
 -- Changes 3 and 4 on the documents of a store that passes: the plan by indices does what the plan of the rules does.
 use Prim.Native.Nat.{ℕ, _<_}
 use mathlib.Core.Path.{_≡_, refl, sym, ap, ap₂, _∙_}
-use mathlib.Core.Bool.{Bool, true, _&&_, not, and-false, false≢true}
+use mathlib.Core.Bool.{Bool, true, _&&_, not, and-false, false≢true, and-comm}
 use mathlib.Core.Option.{Option, some}
 use mathlib.Core.List.{List, [], map, List·Memᴰ·head}
 use lib.ListN.{length}
@@ -34,7 +34,6 @@ use Rattle.plans.proofs.Fillings.{filling-index}
 use Rattle.plans.proofs.TreePlans.{documents-follow}
 use Rattle.plans.proofs.FollowingLaws.{index-same, value-same, follows-all, takes-follow}
 use Rattle.plans.proofs.DocumentPlans.{given}
-use Rattle.plans.proofs.AttributeCallsPlanned.{and-swap}
 use Rattle.plans.proofs.ModelForms.{known-element, picked-known, named-test, later-test}
 use Rattle.model_writer.proofs.FormAfter.{rows-kept}
 
@@ -101,7 +100,7 @@ module _ (s : Store) (g : good s ≡ true) (o : ℕ) (l : o < length (s .form)) 
           later = λ e f. later-test (s .form) once (beforePlace c) [] marks (marked f) (u .name) r (known-element s g r b j);
           index = index-same inserting refl refl (rowWritten (s .form) (u .name) r);
           value = value-same r t [] (given s g r b j);
-          fills = ap (λ (a : Bool). a && needs) (element-test (s .form) once o l (u .name) r) ∙ and-swap (elementNamed owner r) needs;
+          fills = ap (λ (a : Bool). a && needs) (element-test (s .form) once o l (u .name) r) ∙ and-comm (elementNamed owner r) needs;
           filling = λ e d. sym (filling-index s g t d i (r .name) below);
         }
 

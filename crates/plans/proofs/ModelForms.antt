@@ -1,7 +1,6 @@
 -- An edit of one model: no index moves. Elements and their marks, by index and by name.
 use Prim.Native.Nat.{ℕ, _<_}
 use mathlib.Core.Path.{_≡_, refl, sym, ap, _∙_, subst}
-use mathlib.Core.Logic.{inl, inr}
 use mathlib.Core.Bool.{true, _&&_, not}
 use mathlib.Core.Option.{some}
 use mathlib.Core.List.{List, _++_, map, List·Memᴰ, Memᴰ·append-left, Memᴰ·append-right}
@@ -10,10 +9,10 @@ use lib.ListN.{length, getD}
 use Rattle.rules.specs.Bytes.{Bytes, bytes}
 use Rattle.rules.specs.Model.{Members, names, Distinct, member}
 use Rattle.rules.specs.Place.{Found, beforePlace, afterPlace}
-use Rattle.rules.specs.Store.{Form, RowSort, element, attribute, text, Row, Forest, bare, tree, heads, Store, members}
+use Rattle.rules.specs.Store.{Form, RowSort, element, attribute, text, Row, Forest, heads, Store, members}
 use Rattle.rules.specs.Layout.{rowCode, rowIndex, indexOf}
 use Rattle.rules.specs.WellFormed.{definitionName, isThere, known}
-use Rattle.rules.specs.Conforming.{isElement, EveryRow, RowConforms}
+use Rattle.rules.specs.Conforming.{isElement, RowConforms}
 use Rattle.rules.specs.Lines.{elementNamed}
 use Rattle.rules.specs.Passing.{good}
 use Rattle.rules.specs.Edit.{Edit, placeOf}
@@ -30,18 +29,12 @@ use Rattle.row_walk.specs.declared.Later.the-variants.{Unmarked}
 use Rattle.row_walk.specs.Walk.{matches, placeMark, isLater}
 use Rattle.plans.specs.ModelCalls.{Marked}
 use Rattle.rules.proofs.ConformingLaws.{is-element}
+use Rattle.change_laws.proofs.StandingLaws.{standing-every}
 
--- ---- rows by indices, whatever becomes of one model
 -- ---- what stands in the documents
-pub every-standing : (Q : Row → List Row → Type 0) (f : Forest Row) → EveryRow Q f → (r : Row) (b : Forest Row) → Standing f r b → Q r (heads b)
-every-standing Q bare x r b i = absurd i
-every-standing Q (tree s c t) (x, y, z) r b (inl (e, h)) = subst (λ (v : Row). Q v (heads b)) e (subst (λ (g : Forest Row). Q s (heads g)) h x)
-every-standing Q (tree s c t) (x, y, z) r b (inr (inl i)) = every-standing Q c y r b i
-every-standing Q (tree s c t) (x, y, z) r b (inr (inr i)) = every-standing Q t z r b i
-
 -- an element is one of a definition
 pub known-element : (s : Store) → good s ≡ true → (r : Row) (b : Forest Row) → Standing (s .docs) r b → isElement (r .sort) ≡ true → known (s .form) (r .name) ≡ true
-known-element s g r b i e = by (every-standing (λ u rows. RowConforms (s .version) (s .form) u rows) (s .docs) (good-is s .0 g .docs .rows) r b i)
+known-element s g r b i e = by (standing-every (λ u rows. RowConforms (s .version) (s .form) u rows) (s .docs) (good-is s .0 g .docs .rows) r b i)
   where
     by : RowConforms (s .version) (s .form) r (heads b) → known (s .form) (r .name) ≡ true
     by x = let (d, q, y) = rw (is-element (r .sort) e) at x in ap isThere q

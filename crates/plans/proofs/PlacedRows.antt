@@ -32,8 +32,8 @@ use Rattle.change_laws.proofs.Rowwise.{Standing}
 use Rattle.change_laws.proofs.FormLaws.{definition-found}
 use Rattle.change_laws.proofs.ModelAfter.{place-right}
 use Rattle.change_laws.proofs.EditConditions.{complex-content, picked-complex}
-use Rattle.plans.proofs.ModelForms.{every-standing}
 use Rattle.rules.proofs.ConformingLaws.{is-element}
+use Rattle.change_laws.proofs.StandingLaws.{standing-every}
 
 -- ---- words
 pub record Placed (bs ns w : List Bytes) : Type 0 where
@@ -151,7 +151,7 @@ module _ (s : Store) (g : good s ≡ true) (o : ℕ) (l : o < length (s .form)) 
       → NoneAt (names one) (heads b) ⊎ FirstAt (beforePlace c) (names one) (heads b)
   instance-rows r b i n =
       let (is, called) = and-split (isElement (r .sort)) (same (d .name) (r .name)) n in
-      let (k, q, x) = rw (is-element (r .sort) is) at (every-standing (λ u rows. RowConforms (s .version) (s .form) u rows) (s .docs) (good-is s .0 g .docs .rows) r b i) in
+      let (k, q, x) = rw (is-element (r .sort) is) at (standing-every (λ u rows. RowConforms (s .version) (s .form) u rows) (s .docs) (good-is s .0 g .docs .rows) r b i) in
       let found : lookup (r .name) (s .form) ≡ some d =
       ap (λ (z : Bytes). lookup z (s .form)) (sym (same-eq (d .name) (r .name) called)) ∙ definition-found o (s .form) (good-is s .0 g .form .names) l in
       let own : k ≡ d = cc (q, found) in

@@ -1,11 +1,11 @@
 -- The declarations of a form, written, and the whole text.
 use mathlib.Core.Path.{_≡_, refl, sym, ap, ap₂, _∙_, subst}
 use mathlib.Core.List.{List, [], _∷_, _++_, append-assoc, map}
-use Prim.Native.Nat.{ℕ, zero, suc, _+_, _-_, _*_, _<_, _≤_}
+use Prim.Native.Nat.{ℕ, suc, _+_, _-_, _*_, _<_, _≤_}
 use native.Mathlib.Omega.{arith}
 use native.Mathlib.Numerals.{add-one}
 use lib.ListN.{length, take, drop}
-use native.Mathlib.Nat.{mul-suc, mul-zero, mul-add, suc-add}
+use native.Mathlib.Nat.{mul-add}
 use lib.Seq.{drop-drop, take-all}
 use mathlib.Core.Option.{some}
 use Rattle.rules.specs.Bytes.{Bytes, ascii, concat}
@@ -27,37 +27,24 @@ use Rattle.printing_parts.specs.Parts.{Named, definitionPart, fromDefinitions, 
 use Rattle.declaration_printing.specs.Declarations.{LaidWithin, attributesText, contentText, definitionText}
 use Rattle.printing.specs.Texts.{Within, declarationsText, formText, textOf}
 use Rattle.printing_parts.proofs.PartLaws.{definition-name, definition-step}
-use Rattle.codec.proofs.Records.{length-many}
+use Rattle.codec.proofs.Records.{length-many, many-take, many-drop}
 use Rattle.document_printing.specs.Documents.{documentsText}
 
 -- ---- the form
 -- records up to a number, and from a number on
-take-many : {A : Type 0} (f : Bytes → A) (size m n : ℕ) (bs : Bytes) → take m (readMany f size (m + n) bs) ≡ readMany f size m bs
-take-many f size zero n bs = refl
-take-many {A} f size (suc m) n bs = rw suc-add (ap (λ (l : List A). f (take size bs) ∷ l) (take-many f size m n (drop size bs)))
-
-drop-many : {A : Type 0} (f : Bytes → A) (size n m : ℕ) (bs : Bytes) → drop m (readMany f size n bs) ≡ readMany f size (n - m) (drop (size * m) bs)
-drop-many f size n zero bs = let e : n - 0 ≡ n = omega arith in rw (e, mul-zero)
-drop-many f size zero (suc m) bs = let e : 0 - suc m ≡ 0 = omega arith in rw e
-drop-many f size (suc n) (suc m) bs =
-    let e : suc n - suc m ≡ n - m = omega arith in
-    let g : size + size * m ≡ size * suc m = omega (arith, mul-suc size m) in
-    drop-many f size n m (drop size bs) ∙ ap₂ (λ (k : ℕ) (l : Bytes). readMany f size k l) (sym e) (drop-drop (size * m) size bs ∙ ap (λ (k : ℕ). drop k bs) g)
-
 module _ {A : Type 0} (f : Bytes → A) (size : ℕ) (body : Bytes) (end i n : ℕ) where
   pub from-drop : drop n (recordsFrom f size body end i) ≡ recordsFrom f size body end (i + n)
   unfolding recordsFrom
   from-drop =
       let e : end - i - n ≡ end - (i + n) = omega arith in
       let g : size * i + size * n ≡ size * (i + n) = sym (mul-add size i n) in
-      drop-many f size (end - i) n (drop (size * i) body) ∙ ap₂ (λ (k : ℕ) (l : Bytes). readMany f size k l) e (drop-drop (size * n) (size * i) body ∙ ap (λ (k : ℕ). drop k body) g)
+      many-drop f size n (end - i) (drop (size * i) body) ∙ ap₂ (λ (k : ℕ) (l : Bytes). readMany f size k l) e (drop-drop (size * n) (size * i) body ∙ ap (λ (k : ℕ). drop k body) g)
 
   pub from-take : i + n ≤ end → take n (recordsFrom f size body end i) ≡ recordsFrom f size body (i + n) i
   unfolding recordsFrom
   from-take h =
-      let e : end - i ≡ n + (end - (i + n)) = omega arith in
       let g : n ≡ i + n - i = omega arith in
-      ap (λ (k : ℕ). take n (readMany f size k (drop (size * i) body))) e ∙ take-many f size n (end - (i + n)) (drop (size * i) body) ∙ ap (λ (k : ℕ). readMany f size k (drop (size * i) body)) g
+      many-take f size n (end - i) (drop (size * i) body) (omega arith) ∙ ap (λ (k : ℕ). readMany f size k (drop (size * i) body)) g
 
   pub from-take-all : end ≤ i + n → take n (recordsFrom f size body end i) ≡ recordsFrom f size body end i
   unfolding recordsFrom

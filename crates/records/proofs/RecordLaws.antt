@@ -5,18 +5,18 @@ use native.Mathlib.Nat.{pow-suc, sub-add-cancel, le-of-suc-le-suc, mul-suc, mul-
 use native.Mathlib.Omega.{arith}
 use mathlib.Core.Path.{_≡_, refl, ap, ap₂, _∙_, sym, subst}
 use mathlib.Core.Logic.{_↔_}
-use mathlib.Core.Bool.{Bool, true, false, _&&_, _||_, not, false≢true}
+use mathlib.Core.Bool.{Bool, true, false, _&&_, _||_, not}
 use mathlib.Core.List.{List, [], _∷_, _++_, append-assoc, append-nil}
 use lib.Dec.{eqb, leb, ltb, lit<}
 use lib.ListN.{length, take, drop, getD, drop-of-length-le, take-append-drop, length-drop}
 use lib.Seq.{getD-at, take-take, take-nil, take-at, drop-at, drop-cons, drop-drop, drop-append-le, drop-append-add, getD-append-add, getD-drop, length-take-le}
 use borrow.Author.Tests.{leb-true, ltb-true, eqb-true, le-leb, lt-ltb, eq-eqb}
-use Rattle.rules.specs.Bytes.{Bytes, all}
+use Rattle.rules.specs.Bytes.{Bytes}
 use Rattle.rules.specs.Preorder.{Deep}
 use Rattle.rules.specs.Layout.{le, field, nameWidth, FlatDefinition, FlatAttribute, FlatRow, definitionSize, particleSize, attributeSize, rowSize}
 use Rattle.rules.specs.Layout.{definitionBytes, particleBytes, attributeBytes, rowBytes, each}
 use Rattle.rules.specs.Decode.{unle, numberAt, readDefinition, readParticle, readAttribute, readRow, readMany, sortOf}
-use Rattle.rules.specs.WellFormed.{startsName, inName, storedName, isValue, isFill}
+use Rattle.rules.specs.WellFormed.{storedName, isValue, isFill}
 use Rattle.rules.proofs.Words.{and-both, and-split}
 use Rattle.rules.proofs.BooleanLaws.{Every, every-take, every-drop}
 use Rattle.rules.proofs.LayoutLaws.{Small, unle-le, length-field, take-field}
@@ -25,7 +25,7 @@ use Rattle.layout.specs.Fields.{definitionNameAt, definitionKindAt, definitionP
 use Rattle.layout.specs.Fields.{particleDepthAt, attributeOwnerAt, attributeNameAt, attributeSortAt, attributeLengthAt, attributeValueAt, attributeLength}
 use Rattle.layout.specs.Fields.{rowSortAt, rowDepthAt, rowIndexAt, rowSerialAt, rowLengthAt, rowUnusedAt, rowValueAt, rowLength, unusedFit}
 use Rattle.records.specs.Records.{used, filled, nameFits, valueFits, definitionFits, attributeFits, rowFits, eachFits}
-use Rattle.rules.proofs.DecodeLaws.{value-width}
+use Rattle.rules.proofs.DecodeLaws.{value-width, name-width}
 
 -- ---- bytes
 abbrev IsByte : ℕ → Type 0
@@ -128,15 +128,11 @@ drop-past xs ys k n e = ap (λ (m : ℕ). drop (m + n) (xs ++ ys)) (sym e) ∙ d
 getD-past : (xs ys : Bytes) (k n : ℕ) → length xs ≡ k → getD (xs ++ ys) (k + n) 0 ≡ getD ys n 0
 getD-past xs ys k n e = ap (λ (m : ℕ). getD (xs ++ ys) (m + n) 0) (sym e) ∙ getD-append-add xs ys n 0
 
-pub name-length : (n : Bytes) → storedName n ≡ true → length n ≤ nameWidth
-name-length [] h = absurd (false≢true h)
-name-length (x ∷ xs) h = leb-true (length (x ∷ xs)) nameWidth (and-split (startsName x && all inName xs) (leb (length (x ∷ xs)) nameWidth) h .1)
-
 name-fits : (bs n post : Bytes) (at : ℕ) → getD bs at 0 ≡ length n → drop (suc at) bs ≡ field nameWidth n ++ post → storedName n ≡ true → nameFits bs at ≡ true
 unfolding nameFits
 name-fits bs n post at g e s =
     ap (λ (l : ℕ). storedName (used bs (suc at) l) && filled bs (suc at) l nameWidth) g
-    ∙ and-both (ap storedName (used-field bs n post (suc at) nameWidth e (name-length n s)) ∙ s) (filled-field bs n post (suc at) nameWidth e (name-length n s))
+    ∙ and-both (ap storedName (used-field bs n post (suc at) nameWidth e (name-width n s)) ∙ s) (filled-field bs n post (suc at) nameWidth e (name-width n s))
 
 value-fits : (w : ℕ) (bs v post : Bytes) (at l : ℕ) → l ≡ length v → drop at bs ≡ field w v ++ post → isValue w v ≡ true → valueFits w bs at l ≡ true
 unfolding valueFits

@@ -25,10 +25,10 @@ use Rattle.rules.proofs.Words.{and-both, and-split}
 use Rattle.rules.proofs.BooleanLaws.{Every, every-map, every-append, every-zip, none-nil}
 use Rattle.rules.proofs.LayoutLaws.{Small, unle-le, GoodFlatDefinition, GoodFlatAttribute, GoodFlatRow, GoodFlat, length-definition, length-particle}
 use Rattle.rules.proofs.LayoutLaws.{length-attribute, length-row, length-each, length-flatBytes, sized-bytes}
-use Rattle.rules.proofs.DecodeLaws.{version-bound, width-bound, GoodParts, good-parts, DefinitionParts, every-definition, good-flat, value-width}
+use Rattle.rules.proofs.DecodeLaws.{version-bound, width-bound, GoodParts, good-parts, DefinitionParts, every-definition, good-flat, value-width, name-width}
 use Rattle.layout.specs.Fields.{versionAt, nextAt, definitionEntryAt, definitionCountAt, particleEntryAt, particleCountAt, attributeEntryAt, attributeCountAt, rowEntryAt, rowCountAt}
 use Rattle.records.specs.Records.{definitionFits, attributeFits, rowFits, eachFits, atParticles, atAttributes, atRows, recordsFit, countsFit, offsetsFit, headerFits}
-use Rattle.records.proofs.RecordLaws.{small-drop, number-then, number-bound, name-length, FittingDefinition, definition-canonical, definition-fields}
+use Rattle.records.proofs.RecordLaws.{small-drop, number-then, number-bound, FittingDefinition, definition-canonical, definition-fields}
 use Rattle.records.proofs.RecordLaws.{definition-fits, particle-canonical, FittingAttribute, attribute-canonical, attribute-fields, attribute-fits}
 use Rattle.records.proofs.RecordLaws.{FittingRow, row-canonical, row-fields, row-fits, body-then, body-canonical, body-fields, body-fits}
 use Rattle.records.proofs.RecordLaws.{body-fits-whole}
@@ -243,9 +243,9 @@ fitting-good w f x =
       particleCount = omega arith;
       attributeCount = omega arith;
       rowCount = omega arith;
-      definitions = every-map FittingDefinition GoodFlatDefinition (f .definitions) (λ d y. record { name = name-length (d .name) (y .name); particles = y .particles }) (x .definitions);
+      definitions = every-map FittingDefinition GoodFlatDefinition (f .definitions) (λ d y. record { name = name-width (d .name) (y .name); particles = y .particles }) (x .definitions);
       attributes = every-map (FittingAttribute w (length (f .definitions))) (GoodFlatAttribute w) (f .attributes)
-          (λ a y. record { name = name-length (a .name) (y .name); value = value-width w (a .value) (y .value) }) (x .attributes);
+          (λ a y. record { name = name-width (a .name) (y .name); value = value-width w (a .value) (y .value) }) (x .attributes);
       rows = every-map (FittingRow w) (GoodFlatRow w) (f .rows) (λ r y. record { index = y .index; serial = y .serial; value = value-width w (r .row .value) (y .value) }) (x .rows);
     }
 

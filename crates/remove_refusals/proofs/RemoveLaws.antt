@@ -3,7 +3,7 @@ use Prim.Native.Nat.{ℕ, zero, suc, _+_, _-_, _*_, _<_, _≤_}
 use native.Mathlib.Omega.{arith}
 use borrow.Author.Tests.{eq-eqb, ne-eqb, lt-ltb, le-ltb}
 use mathlib.Core.Path.{_≡_, refl, sym, ap, ap₂, _∙_, subst}
-use mathlib.Core.Bool.{Bool, true, false, _&&_, _||_, not, false≢true}
+use mathlib.Core.Bool.{Bool, true, false, _&&_, _||_, not, false≢true, or-assoc}
 use mathlib.Core.Option.{none, some}
 use mathlib.Core.List.{List, [], _∷_, _++_, append-assoc}
 use lib.Dec.{eqb, ltb}
@@ -34,10 +34,10 @@ use Rattle.model.specs.Particle.{particleOf}
 use Rattle.model.specs.Members.{indexMember, indexMembers, particlesOf, membersFrom}
 use Rattle.model.specs.Places.{Particles, noParticle, top}
 use Rattle.model.specs.Positions.{elementParticle, groupParticle, spread, count, trailing, level}
-use Rattle.model.proofs.ParticleLaws.{particle-at, particles-drop, particles-take}
+use Rattle.model.proofs.ParticleLaws.{particle-at, particles-take}
 use Rattle.model.proofs.PositionLaws.{spread-plug, length-leading, length-spread}
 use Rattle.model.proofs.SpreadLaws.{members-spread}
-use Rattle.model.proofs.MembersLaws.{members-here}
+use Rattle.model.proofs.MembersLaws.{members-here, particles-past}
 use Rattle.model.proofs.FactsLaws.{facts-nothing}
 use Rattle.model_writer.proofs.HeadAfter.{depth-holder}
 use Rattle.store_laws.specs.Stores.{storeIn}
@@ -69,15 +69,11 @@ done-rename f done = refl
 done-rename f (el q x t) = refl
 done-rename f (group q k ms t) = refl
 
-or-assoc : (a b c : Bool) → (a || (b || c)) ≡ ((a || b) || c)
-or-assoc true b c = refl
-or-assoc false b c = refl
-
 nothing-append : (f t : Members ℕ) → nothing Choice (f ⊕ t) ≡ (nothing Choice f || nothing Choice t)
 unfolding nothing _⊕_
 nothing-append done t = refl
-nothing-append (el q i f) t = ap (λ (b : Bool). skips q || b) (nothing-append f t) ∙ or-assoc (skips q) (nothing Choice f) (nothing Choice t)
-nothing-append (group q k ms f) t = ap (λ (b : Bool). (skips q || nothing k ms) || b) (nothing-append f t) ∙ or-assoc (skips q || nothing k ms) (nothing Choice f) (nothing Choice t)
+nothing-append (el q i f) t = ap (λ (b : Bool). skips q || b) (nothing-append f t) ∙ sym (or-assoc (skips q) (nothing Choice f) (nothing Choice t))
+nothing-append (group q k ms f) t = ap (λ (b : Bool). (skips q || nothing k ms) || b) (nothing-append f t) ∙ sym (or-assoc (skips q || nothing k ms) (nothing Choice f) (nothing Choice t))
 
 restOf : Members ℕ → Members ℕ
 restOf done = done
@@ -197,17 +193,16 @@ module _ {bs : Bytes} {o : ℕ} {place : List ℕ} {h : Holder} {p : ℕ} {q : Q
     unfolding membersFrom
     before-is =
         let z : p - h .start ≡ count f = omega (arith, start-is, stands-is) in
-        let fit : particleSize * h .start ≤ length part = omega (arith, room-here, start-is, stands-is) in
         ap (λ (l : Particles). indexMembers (build l d))
         (particles-take (p - h .start) (drop (particleSize * h .start) part) (omega (arith, room-here, length-drop (particleSize * h .start) part))
-        ∙ ap₂ (λ (i : ℕ) (l : Particles). take i l) z (particles-drop (h .start) part fit ∙ from-first)
+        ∙ ap₂ (λ (i : ℕ) (l : Particles). take i l) z (particles-past (h .start) part ∙ from-first)
         ∙ take-at (spread d f) onward (count f) (length-spread d f))
         ∙ members-spread d f
 
     choice-is : choiceLeft part (h .start) p d ≡ (skips r || nothing Choice (f ⊕ left))
     choice-is =
         (λ i. (skips (quantifier-read i) || nothing Choice (before-is i)) || nothing Choice (rest-is i))
-        ∙ sym (or-assoc (skips r) (nothing Choice f) (nothing Choice left))
+        ∙ or-assoc (skips r) (nothing Choice f) (nothing Choice left)
         ∙ ap (λ (b : Bool). skips r || b) (sym (nothing-append f left))
 
   -- 14

@@ -1,7 +1,7 @@
 -- Names that stand once: a name at a place stands nowhere else.
 use mathlib.Core.Path.{_≡_, refl, sym, ap, _∙_}
 use mathlib.Core.Bool.{Bool, true, false}
-use mathlib.Core.List.{List, [], _∷_, _++_, append-assoc, List·Memᴰ, List·Memᴰ·head, Memᴰ·append-left, Memᴰ·append-right}
+use mathlib.Core.List.{List, _∷_, _++_, append-assoc, List·Memᴰ, List·Memᴰ·head, Memᴰ·append-left, Memᴰ·append-right, append-nil}
 use Rattle.rules.specs.Model.{Members, names, Distinct, Equality}
 use Rattle.rules.specs.Place.{Context, here, past, over, into, plug, beforePlace, afterPlace}
 use Rattle.rules.proofs.Correct.{distinct-right, distinct-apart}
@@ -9,11 +9,7 @@ use Rattle.rules.proofs.Correct.{distinct-right, distinct-apart}
 module _ {A : Type 0} where
   pub names-plug : (c : Context A) (t : Members A) → names (plug c t) ≡ beforePlace c ++ (names t ++ afterPlace c)
   unfolding names plug beforePlace afterPlace
-  names-plug here t = sym (append-nil′ (names t))
-    where
-      append-nil′ : (l : List A) → l ++ [] ≡ l
-      append-nil′ [] = refl
-      append-nil′ (x ∷ l) = ap (λ (z : List A). x ∷ z) (append-nil′ l)
+  names-plug here t = sym (append-nil (names t))
   names-plug (past q n c) t = ap (λ (z : List A). n ∷ z) (names-plug c t)
   names-plug (over q k ms c) t = ap (λ (z : List A). names ms ++ z) (names-plug c t) ∙ sym (append-assoc (names ms) (beforePlace c) (names t ++ afterPlace c))
   names-plug (into q k c rest) t = rw (names-plug c t) (simp append-assoc)

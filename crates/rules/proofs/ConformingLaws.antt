@@ -3,7 +3,7 @@ use Prim.Native.Nat.{ℕ}
 use mathlib.Core.Path.{_≡_, refl, sym, ap, ap₂, _∙_}
 use mathlib.Core.Logic.{_⊎_, inl, inr, ⊎-elim, _↔_}
 use mathlib.Core.Bool.{Bool, true, false, _&&_, false≢true}
-use mathlib.Core.Option.{Option, none, some}
+use mathlib.Core.Option.{Option, none, some, Option·none-ne-some}
 use mathlib.Core.List.{List, [], _∷_, _++_, map, List·Memᴰ, List·Memᴰ·head, List·Memᴰ·tail, List·Memᴰ·not-nil, List·Memᴰ·cases-cons, Memᴰ·cast, Memᴰ·map}
 use Rattle.rules.specs.Bytes.{Bytes, same, bytes, same-eq, same-refl, all, isNone}
 use Rattle.rules.specs.Model.{names, Distinct}
@@ -170,9 +170,6 @@ cut-add version a table r rows rest new e v x =
       attributes = rows-add version a table r (x .front) new (sym (same-eq (a .name) (r .name) n)) (is-attribute (r .sort) s) v (x .attributes);
     }
 
-pub none-some : {A : Type 0} {x : A} → none ≡ some x → ⊥
-none-some e = let z : false ≡ true = cc e in false≢true z
-
 strip→ : (version : ℕ) (table : List Attribute) (rows rest : List Row) → Distinct (map attributeName table) → strip version table rows ≡ some rest → Cut version table rows rest
 unfolding strip begins
 strip→ version [] rows rest d e = record { front = []; split = let z : rest ≡ rows = cc e in z; attributes = no-rows version }
@@ -183,14 +180,14 @@ strip→ version (a ∷ table) rows rest (new, d) e = by rows e (begins (a .name
     by rows e false h f = past (mustBePresent version (a .sort)) refl
       where
         past : (c : Bool) → mustBePresent version (a .sort) ≡ c → Cut version (a ∷ table) rows rest
-        past true m = absurd (none-some (sym (strip-lacks version a table rows h m) ∙ e))
+        past true m = absurd (Option·none-ne-some _ (sym (strip-lacks version a table rows h m) ∙ e))
         past false m = cut-past version a table rows rest new m (f rows rest d (sym (strip-past version a table rows h m) ∙ e))
     by [] e true h f = absurd (false≢true h)
     by (r ∷ rows) e true h f = take (allows (a .sort) (a .value) (r .value)) refl
       where
         take : (c : Bool) → allows (a .sort) (a .value) (r .value) ≡ c → Cut version (a ∷ table) (r ∷ rows) rest
         take true v = cut-add version a table r rows rest new h v (f rows rest d (sym (strip-take version a table r rows h v) ∙ e))
-        take false v = absurd (none-some (sym (strip-wrong version a table r rows h v) ∙ e))
+        take false v = absurd (Option·none-ne-some _ (sym (strip-wrong version a table r rows h v) ∙ e))
 
 pub begins-none : (n : Bytes) (rows : List Row) → headAttribute rows ≡ false → begins n rows ≡ false
 unfolding begins headAttribute

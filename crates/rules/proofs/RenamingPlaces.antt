@@ -1,7 +1,7 @@
 -- Names for indices: places, fillings and what is asked of them stay.
 use mathlib.Core.Path.{_≡_, refl, sym, ap, _∙_}
 use mathlib.Core.Bool.{Bool, true, false, _||_}
-use mathlib.Core.List.{List, [], _∷_, _++_, map}
+use mathlib.Core.List.{List, [], _∷_, map, map-append}
 use Rattle.rules.specs.declared.GroupKind.{GroupKind}
 use Rattle.rules.specs.declared.GroupKind.the-variants.{Sequence, Choice}
 use Rattle.rules.specs.Model.{Members, done, el, group, names, nothing, rename, filling, beside, unless, skips}
@@ -9,10 +9,6 @@ use Rattle.rules.specs.Place.{Context, here, past, over, into, plug, spi
 use Rattle.rules.proofs.AroundLaws.{leaves}
 
 module _ {A B : Type 0} (f : A → B) where
-  pub map-append : (u v : List A) → map f (u ++ v) ≡ map f u ++ map f v
-  map-append [] v = refl
-  map-append (x ∷ u) v = ap (λ (z : List B). f x ∷ z) (map-append u v)
-
   pub nothing-rename : (k : GroupKind) (ms : Members A) → nothing k (rename f ms) ≡ nothing k ms
   unfolding nothing rename
   nothing-rename k done = refl
@@ -23,14 +19,14 @@ module _ {A B : Type 0} (f : A → B) where
   unfolding names rename
   names-rename done = refl
   names-rename (el q n rest) = ap (λ (z : List B). f n ∷ z) (names-rename rest)
-  names-rename (group q j ms rest) = rw (names-rename ms, names-rename rest) (sym (map-append (names ms) (names rest)))
+  names-rename (group q j ms rest) = rw (names-rename ms, names-rename rest) (sym (map-append f (names ms) (names rest)))
 
   unless-map : (b : Bool) (w : List A) → unless b (map f w) ≡ map f (unless b w)
   unless-map true w = refl
   unless-map false w = refl
 
   beside-map : (k : GroupKind) (u v : List A) → beside k (map f u) (map f v) ≡ map f (beside k u v)
-  beside-map Sequence u v = sym (map-append u v)
+  beside-map Sequence u v = sym (map-append f u v)
   beside-map Choice u v = refl
 
   pub filling-rename : (k : GroupKind) (ms : Members A) → filling k (rename f ms) ≡ map f (filling k ms)
@@ -59,7 +55,7 @@ module _ {A B : Type 0} (f : A → B) where
   unfolding beforePlace renameAround
   before-rename here = refl
   before-rename (past q n c) = ap (λ (z : List B). f n ∷ z) (before-rename c)
-  before-rename (over q k ms c) = rw (names-rename ms, before-rename c) (sym (map-append (names ms) (beforePlace c)))
+  before-rename (over q k ms c) = rw (names-rename ms, before-rename c) (sym (map-append f (names ms) (beforePlace c)))
   before-rename (into q k c rest) = before-rename c
 
   pub leaves-rename : (b : Bool) (k : GroupKind) (c : Context A) (t : Members A) → leaves b k (renameAround f c) (rename f t) ≡ leaves b k c t

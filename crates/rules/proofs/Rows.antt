@@ -1,7 +1,7 @@
 -- The names of the edited rows are the edited names.
 use mathlib.Core.Path.{_≡_, refl, ap, _∙_}
 use mathlib.Core.Bool.{Bool, true, false, not, _&&_, _||_}
-use mathlib.Core.List.{List, [], _∷_, _++_, map}
+use mathlib.Core.List.{List, [], _∷_, map, map-append}
 use Rattle.rules.specs.declared.Quantifier.{Quantifier}
 use Rattle.rules.specs.declared.GroupKind.{GroupKind}
 use Rattle.rules.specs.Model.{Members, done, el, group, Equality, names, skips, nothing, unless, filling, member}
@@ -16,10 +16,6 @@ module _ {A R : Type 0} (name : R → A) where
   map-if true u v x y e f = e
   map-if false u v x y e f = f
 
-  map-both : (u v : List R) → map name (u ++ v) ≡ map name u ++ map name v
-  map-both [] v = refl
-  map-both (r ∷ u) v = ap (λ (z : List A). name r ∷ z) (map-both u v)
-
   module _ (E : Equality A) where
     erase-rows : (x : A) (rs : List R) → map name (eraseRows E name x rs) ≡ erase E x (map name rs)
     unfolding eraseRows erase
@@ -29,7 +25,7 @@ module _ {A R : Type 0} (name : R → A) where
     place-rows : (ns : List A) (f : List R) (rs : List R) → map name (placeRows E name ns f rs) ≡ placed E ns (map name f) (map name rs)
     unfolding placeRows placed
     place-rows ns f [] = refl
-    place-rows ns f (r ∷ rs) = map-if (member E (name r) ns) _ _ _ _ (ap (λ (z : List A). name r ∷ z) (place-rows ns f rs)) (map-both f (r ∷ rs))
+    place-rows ns f (r ∷ rs) = map-if (member E (name r) ns) _ _ _ _ (ap (λ (z : List A). name r ∷ z) (place-rows ns f rs)) (map-append name f (r ∷ rs))
 
     first-rows : (x : A) (rs : List R) → map name (firstRows E name x rs) ≡ keepFirst E x (map name rs)
     unfolding firstRows keepFirst

@@ -4,8 +4,8 @@ use mathlib.Core.Path.{_≡_, refl}
 use mathlib.Core.Logic.{⊎-elim, _↔_, Iff·rfl}
 use mathlib.Core.Bool.{Bool, true, _&&_}
 use mathlib.Core.List.{List, List·Memᴰ, List·Memᴰ·head, List·Memᴰ·tail, List·Memᴰ·not-nil, List·Memᴰ·cases-cons, List·Memᴰ·append-cases, Memᴰ·append-left, Memᴰ·append-right}
-use lib.Dec.{leb, ltb, leb→le, le→leb, ltb→lt}
-use Rattle.rules.specs.Bytes.{numbers, all, of-T, to-T}
+use lib.Dec.{leb, ltb, leb→le, ltb→lt}
+use Rattle.rules.specs.Bytes.{numbers, all, to-T}
 use Rattle.rules.specs.Model.{distinct}
 use Rattle.rules.specs.Store.{Row, Forest, bare, tree, heads}
 use Rattle.rules.specs.WellFormed.{highestNumber}
@@ -13,7 +13,7 @@ use Rattle.rules.specs.Conforming.{EveryRow, everyRow}
 use Rattle.rules.specs.Passing.{serials, GoodSerials, goodSerials}
 use Rattle.rules.proofs.Words.{and-both, and-split}
 use Rattle.rules.proofs.TestLaws.{all-test, distinct-test}
-use borrow.Author.Tests.{lt-ltb}
+use borrow.Author.Tests.{lt-ltb, le-leb}
 
 -- ---- every row
 module _ (p : Row → List Row → Bool) (P : Row → List Row → Type 0) (is : (r : Row) (b : List Row) → (p r b ≡ true) ↔ P r b) where
@@ -36,9 +36,6 @@ pub every-row : (p : Row → List Row → Bool) (docs : Forest Row) → (everyRo
 every-row p docs = every-row-is p (λ r b. p r b ≡ true) (λ r b. Iff·rfl) docs
 
 -- ---- serials
-leb-of : (m n : ℕ) → m ≤ n → leb m n ≡ true
-leb-of m n h = of-T (le→leb m n h)
-
 serial-in : (next k : ℕ) → (leb 1 k && ltb k next) ≡ true → (1 ≤ k) × (k < next)
 serial-in next k e = let (a, b) = and-split (leb 1 k) (ltb k next) e in (leb→le 1 k (to-T a), ltb→lt k next (to-T b))
 
@@ -75,6 +72,6 @@ good-serials next docs = (
       },
   λ g.
       and-both (distinct-test numbers (serials docs) .1 (g .once))
-      (and-both (all-test (λ k. leb 1 k && ltb k next) (serials docs) .1 (λ k i. let (a, b) = g .below k i in and-both (leb-of 1 k a) (lt-ltb k next b)))
-      (and-both (leb-of 1 next (g .least)) (leb-of next highestNumber (g .most)))),
+      (and-both (all-test (λ k. leb 1 k && ltb k next) (serials docs) .1 (λ k i. let (a, b) = g .below k i in and-both (le-leb 1 k a) (lt-ltb k next b)))
+      (and-both (le-leb 1 next (g .least)) (le-leb next highestNumber (g .most)))),
 )

@@ -3,7 +3,7 @@ use Prim.Native.Nat.{ℕ, zero, suc, _≤_, _<_}
 use native.Mathlib.Omega.{arith}
 use native.Mathlib.Nat.{not-suc-le-zero, le-of-suc-le-suc}
 use mathlib.Core.Path.{_≡_, refl, ap, ap₂, _∙_, sym}
-use mathlib.Core.Bool.{Bool, true, false, _&&_}
+use mathlib.Core.Bool.{Bool, true, false, _&&_, and-assoc}
 use mathlib.Core.List.{List, [], _∷_, _++_, map, map-append, List·Memᴰ, List·Memᴰ·head, List·Memᴰ·tail}
 use lib.Dec.{leb, ltb}
 use lib.ListN.{length, drop, getD}
@@ -41,11 +41,7 @@ serials-read d ns cs (tree x b t) =
 pub good-serials-fit : (next : ℕ) (docs : Forest Row) → goodSerials next docs ≡ (fitting next (serials docs) && (leb 1 next && leb next highestNumber))
 unfolding goodSerials fitting
 good-serials-fit next docs =
-    by (distinct numbers (serials docs)) (all (λ k. leb 1 k && ltb k next) (serials docs)) (leb 1 next && leb next highestNumber)
-  where
-    by : (a b c : Bool) → (a && (b && c)) ≡ ((a && b) && c)
-    by true b c = refl
-    by false b c = refl
+    sym (and-assoc (distinct numbers (serials docs)) (all (λ k. leb 1 k && ltb k next) (serials docs)) (leb 1 next && leb next highestNumber))
 
 -- ---- the serials of a body, by number
 serials-length : (w count : ℕ) (rows : Bytes) → length (serialsOf w count rows) ≡ count

@@ -5,7 +5,7 @@ use native.Mathlib.Omega.{arith}
 use mathlib.Core.Path.{_≡_, refl, ap, _∙_, sym, subst}
 use mathlib.Core.Logic.{_⊎_, inl, inr, ⊎-elim}
 use mathlib.Core.Bool.{Bool, true, false, _&&_, false≢true}
-use mathlib.Core.Option.{some}
+use mathlib.Core.Option.{some, Option·none-ne-some}
 use mathlib.Core.List.{List, [], _∷_, _++_, map, List·Memᴰ, List·Memᴰ·head, List·Memᴰ·tail, List·Memᴰ·not-nil, List·Memᴰ·cases-cons, Memᴰ·cast, cons≢nil, head-eq-of-cons-eq}
 use Rattle.rules.specs.Bytes.{Bytes, same, same-eq}
 use Rattle.rules.specs.Model.{Distinct}
@@ -15,7 +15,7 @@ use Rattle.rules.specs.Decode.{nameAt, rowSortOf, rowName}
 use Rattle.rules.specs.WellFormed.{attributeName}
 use Rattle.rules.specs.Conforming.{isAttribute, mustBePresent, allows, strip}
 use Rattle.rules.proofs.Words.{and-split}
-use Rattle.rules.proofs.ConformingLaws.{headAttribute, begins, strip-past, strip-take, begins-none, begins-other, begins-this, none-some, is-attribute}
+use Rattle.rules.proofs.ConformingLaws.{headAttribute, begins, strip-past, strip-take, begins-none, begins-other, begins-this, is-attribute}
 use Rattle.rules.proofs.DecodeLaws.{attributeNames}
 use Rattle.form_index.specs.Indices.{IndexForm, indexOfRow, AttributeRowsOf}
 use Rattle.store_check.proofs.IndexLaws.{namesOf}
@@ -147,7 +147,7 @@ module _ (version : ℕ) (F : IndexForm) (form : Form) where
           → (strip version table [] ≡ some rest
           → (front : List Row) × (front ++ rest ≡ []) × Taken version (suc j) table (map (rowWritten form (nameAt i (namesOf form))) front))
           → (front : List Row) × (front ++ rest ≡ []) × Taken version j (a ∷ table) (map (rowWritten form (nameAt i (namesOf form))) front)
-      by true q f = absurd (none-some (rw (q, strip) at h))
+      by true q f = absurd (Option·none-ne-some _ (rw (q, strip) at h))
       by false q f = let (front, z, t) = f (rw (q, strip) at h) in (front, z, inl (q, t))
   taken-strip i j (a ∷ table) (e, b) (r ∷ rows) rest h =
       by (isAttribute (r .sort) && same (a .name) (r .name)) refl (allows (a .sort) (a .value) (r .value)) refl (mustBePresent version (a .sort)) refl
@@ -165,6 +165,6 @@ module _ (version : ℕ) (F : IndexForm) (form : Form) where
       by true q true p z m f g =
           let (k, n) = and-split (isAttribute (r .sort)) (same (a .name) (r .name)) q in
           first (is-attribute (r .sort) k) (same-eq (a .name) (r .name) n) p (f (rw (q, strip, p) at h))
-      by true q false p z m f g = absurd (none-some (rw (q, strip, p) at h))
-      by false q y p true m f g = absurd (none-some (rw (q, strip, m) at h))
+      by true q false p z m f g = absurd (Option·none-ne-some _ (rw (q, strip, p) at h))
+      by false q y p true m f g = absurd (Option·none-ne-some _ (rw (q, strip, m) at h))
       by false q y p false m f g = let (front, u, t) = g (rw (q, strip, m) at h) in (front, u, inl (m, t))

@@ -43,7 +43,7 @@ module _ (bs : Bytes) where
   unfolding bodiesOf
   counted-rows = sym (length-many readRow (rowSize (widthOf bs)) (rowCount bs) _)
 
-  own-serial : numberAt nextAt 4 bs ≡ bodiesOf bs .next
+  pub own-serial : numberAt nextAt 4 bs ≡ bodiesOf bs .next
   unfolding bodiesOf
   own-serial = refl
 

@@ -35,10 +35,7 @@ use Rattle.store_writer.proofs.OrderLaws.{laid-before}
 use Rattle.store_laws.proofs.FormBytesLaws.{count-definitions, count-particles, count-attributes, Few, few-of, few-definitions, few-particles, few-attributes, form-short}
 use Rattle.store_laws.proofs.FormBytesLaws.{reformed, whole, ceilings-rows, reformed-length, reformed-bytes}
 use Rattle.layout.specs.Fields.{nextAt}
-
-pub next-of : (bs : Bytes) → bodiesOf bs .next ≡ numberAt nextAt 4 bs
-unfolding bodiesOf widthOf
-next-of bs = refl
+use Rattle.store_laws.proofs.Encoded.{own-serial}
 
 -- the numbers of the header of a store with such a form
 pub heads-of : {w : ℕ} {form : Bytes} {d p a : ℕ} → Forms w form d p a → {next r : ℕ} → w ≤ 96 → next ≤ 4294967295 → r ≤ 4096 → Heads form next d p a r
@@ -107,7 +104,7 @@ module _ {bs : Bytes} (h : Holds bs) {form : Bytes} {d p a : ℕ} (x : Forms (wi
       by false q = sym (lt-ltb 4096 (length xs) (leb-false (length xs) 4096 q))
 
   next-is : after .next ≡ numberAt nextAt 4 bs + newIn xs
-  next-is = next-after ∙ ap (λ (n : ℕ). n + newIn xs) (next-of bs)
+  next-is = next-after ∙ ap (λ (n : ℕ). n + newIn xs) (sym (own-serial bs))
 
   module _ (out : Bytes) {number : ℕ} (e : number ≡ limitOf (widthOf bs) (length form) (length xs) (numberAt nextAt 4 bs + newIn xs) (length out)) where
     limited-is : limited (length out) after ≡ unlessRefused number (flatBytes (valueWidth (after .version)) after)
@@ -156,6 +153,6 @@ module _ {bs : Bytes} (h : Holds bs) {form : Bytes} {d p a : ℕ} (x : Forms (wi
         → Laid (flatBytes (widthOf bs) after) out 0 (r .at) out′
     edited-laid s {wide = wide} v laid =
         let front : headed (widthOf bs) next d p a (length xs) bs ++ form ≡ headed wide (r .serial) d p a (4097 - r .left) bs ++ form =
-        λ j. headed (sym (v .value) j) ((ap (λ (n : ℕ). n + newIn xs) (next-of bs) ∙ sym serial-is) j) d p a (sym count-is j) bs ++ form in
+        λ j. headed (sym (v .value) j) ((ap (λ (n : ℕ). n + newIn xs) (sym (own-serial bs)) ∙ sym serial-is) j) d p a (sym count-is j) bs ++ form in
         laid-as (ap (λ (w : ℕ). flatBytes w after) (sym width-after) ∙ bytes)
-        (laid-before (laid-as (λ j. rowsBytes (widthOf bs) (next-of bs j) xs) (written-fitting w (omega (arith, i .rows)))) (s ∙ start-is) (laid-as front laid))
+        (laid-before (laid-as (λ j. rowsBytes (widthOf bs) (sym (own-serial bs) j) xs) (written-fitting w (omega (arith, i .rows)))) (s ∙ start-is) (laid-as front laid))

@@ -77,7 +77,7 @@ module _ (w : ℕ) where
       → readMany readRow (rowSize w) m t ≡ readMany readRow (rowSize w) k t ++ readMany readRow (rowSize w) (m - k) (drop (rowSize w * k) t)
   rows-split k m t h =
       sym (take-append-drop k (readMany readRow (rowSize w) m t))
-      ∙ ap₂ (λ (xs ys : List (Deep FlatRow)). xs ++ ys) (many-take readRow (rowSize w) k m t h) (many-drop readRow (rowSize w) k m t h)
+      ∙ ap₂ (λ (xs ys : List (Deep FlatRow)). xs ++ ys) (many-take readRow (rowSize w) k m t h) (many-drop readRow (rowSize w) k m t)
 
   pub rows-step : (m : ℕ) (t : Bytes) → 0 < m → readMany readRow (rowSize w) m t ≡ readRow (take (rowSize w) t) ∷ readMany readRow (rowSize w) (m - 1) (drop (rowSize w) t)
   rows-step zero t h = absurd (omega arith)

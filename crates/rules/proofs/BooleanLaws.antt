@@ -1,4 +1,4 @@
--- Facts on tests over lists: entry by entry, by membership, and of a value behind a test.
+-- Facts on tests over lists: entry by entry, by membership, of lists one after the other, and of a value behind a test.
 use Prim.Native.Nat.{ℕ, zero, suc}
 use native.Mathlib.Omega.{arith}
 use mathlib.Core.Path.{_≡_, refl, ap, sym, _∙_}

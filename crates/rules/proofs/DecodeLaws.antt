@@ -27,7 +27,7 @@ use Rattle.rules.specs.Layout.{rowSize, indexOf, indexIn, attributeIndex
 use Rattle.rules.specs.Layout.{flatDefinition, allParticles, ownAttributes, allAttributes, rowIndex, indexed, flat, encode}
 use Rattle.rules.specs.Decode.{versionIn, readFlat, sized, nameAt, quantifierOf, contentOf, sortOf, rowSortOf, readMembers, ofOwner, readForm, rowName}
 use Rattle.rules.specs.Decode.{readRows, flatName, flatAttributeName, unflat, confirm, decode}
-use Rattle.rules.specs.WellFormed.{startsName, inName, isName, storedName, isValue, highestNumber, withinCeilings, definitionName, attributeName, lookup, isThere}
+use Rattle.rules.specs.WellFormed.{startsName, inName, isName, storedName, isValue, highestNumber, withinCeilings, definitionName, attributeName, lookup}
 use Rattle.rules.specs.WellFormed.{isThere, known, reachesIn, isFill, isAttributeOf, goodDefinition, wellFormed}
 use Rattle.rules.specs.Conforming.{nameOf, EveryRow, isElement, isAttribute, isText, everyRow, mustBePresent, allows, strip, fits, fitsStripped, fitsDefinition, fitsRow, conforming}
 use Rattle.rules.specs.Passing.{knownVersion, laidRow, serials, goodSerials, good, goodRead, readStore, passes}

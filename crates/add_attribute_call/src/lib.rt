@@ -9,8 +9,6 @@ ghost use Rattle.store_writer.specs.Writing.{limited};
 ghost use Rattle.attribute_writer.specs.Attributes.{Addable};
 ghost use Rattle.add_attribute_call.specs.Added.{added};
 
-const MOST_ATTRIBUTES: usize = 64;
-
 // The store with a new attribute, the last of its owner.
 fn write_added(
     store: &[u8],
@@ -27,7 +25,7 @@ fn write_added(
     let d = layout::definition_count(store);
     let p = layout::particle_count(store);
     let a = layout::attribute_count(store);
-    if a >= MOST_ATTRIBUTES {
+    if a >= layout::MAX_ATTRIBUTES {
         return store_writer::refused(16);
     }
     let i = attribute_form::attributes_to(store, owner);

@@ -27,9 +27,9 @@ pub fn put_added(
     let form = attribute_form::form_of(store);
     let place = attribute_form::place_of(store, i);
     let w = layout::width_in(store);
-    let first = codec::put(records::first(form, place), out, 0);
+    let first = codec::put(codec::first(form, place), out, 0);
     let second = layout_writer::put_attribute(w, owner as u8, name, sort as u8, value, out, first);
-    codec::put(records::after(form, place), out, second)
+    codec::put(codec::after(form, place), out, second)
 }
 
 /// Writes the form without attribute i.
@@ -40,6 +40,6 @@ pub fn put_dropped(store: &[u8], i: usize, out: &mut [u8]) -> usize
     let form = attribute_form::form_of(store);
     let place = attribute_form::place_of(store, i);
     let rest = attribute_form::place_of(store, i + 1);
-    let next = codec::put(records::first(form, place), out, 0);
-    codec::put(records::after(form, rest), out, next)
+    let next = codec::put(codec::first(form, place), out, 0);
+    codec::put(codec::after(form, rest), out, next)
 }

@@ -1,4 +1,5 @@
 //! Circles of definitions: whether a definition reaches itself through models, and the height of each that does not.
+use layout::MAX_DEFINITIONS;
 ghost use mathlib.Core.Path.{_≡_};
 ghost use mathlib.Core.Logic.{_↔_};
 ghost use mathlib.Core.Bool.{true};
@@ -7,8 +8,6 @@ ghost use Rattle.rules.specs.Bytes.{all};
 ghost use Rattle.circle_check.specs.Members.{elementsOf, membersIn};
 ghost use Rattle.circle_check.specs.Deep.{hasHeight, firstPasses, raisedTo, Round, Ranked};
 ghost use Rattle.circle_check.specs.Avoiding.{Avoids};
-
-const MAX_DEFINITIONS: usize = 64;
 
 /// Whether every chain of members ends, and the height of each definition, which is more than that of each member; 0
 /// for one from which a chain does not end.

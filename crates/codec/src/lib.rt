@@ -2,7 +2,7 @@
 ghost use mathlib.Core.Path.{_≡_};
 ghost use mathlib.Core.List.{[], _∷_};
 ghost use Prim.Native.Nat.{_+_, _<_, _^_};
-ghost use lib.ListN.{length, getD, set};
+ghost use lib.ListN.{length, getD, set, take, drop};
 ghost use lib.Seq.{sets};
 ghost use Rattle.rules.specs.Bytes.{same};
 ghost use Rattle.rules.specs.Layout.{le};
@@ -46,6 +46,26 @@ pub fn get_u32(s: &[u8], at: usize) -> u32
         byte(s, at + 2),
         byte(s, at + 3),
     )
+}
+
+/// What stands from n on.
+pub fn after(s: &[u8], n: usize) -> &[u8]
+    ensures { λ r. ⌜ now r ≡ drop n (now (s .entry)) ⌝ }
+{
+    if n < s.len() {
+        return &s[n..];
+    }
+    &s[..0]
+}
+
+/// The first n bytes, or all if there are fewer.
+pub fn first(s: &[u8], n: usize) -> &[u8]
+    ensures { λ r. ⌜ now r ≡ take n (now (s .entry)) ⌝ }
+{
+    if n < s.len() {
+        return &s[..n];
+    }
+    s
 }
 
 /// The n bytes from `at` on, or none where s is too short for them.

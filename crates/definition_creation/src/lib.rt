@@ -22,5 +22,5 @@ pub fn put_created(store: &[u8], name: &[u8], kind: u32, out: &mut [u8]) -> usiz
     let first = definition_writer::put_header(store, d + 1, p, a, out);
     let second = codec::put(layout::definitions_of(store), out, first);
     let third = layout_writer::put_definition(name, kind as u8, 0, out, second);
-    codec::put(records::after(store, rest), out, third)
+    codec::put(codec::after(store, rest), out, third)
 }

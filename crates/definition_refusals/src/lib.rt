@@ -33,7 +33,7 @@ pub fn create_limit(store: &[u8], name: &[u8], kind: u32, room: usize) -> u32
     requires { ⌜ passes (now store) ≡ true ⌝ }
     ensures { λ r. ⌜ Limit (widthOf (now (store .entry))) room (created (now (name .entry)) kind (bodiesOf (now (store .entry)))) r ⌝ }
 {
-    if layout::definition_count(store) >= 64 {
+    if layout::definition_count(store) >= layout::MAX_DEFINITIONS {
         return 16;
     }
     if store.len() + layout::definition_size() > room {

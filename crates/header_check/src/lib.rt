@@ -14,7 +14,9 @@ fn counts_fit(store: &[u8]) -> bool
     let particles = layout::particle_count(store);
     let attributes = layout::attribute_count(store);
     let rows = layout::row_count(store);
-    (definitions <= 64) & ((particles <= 256) & ((attributes <= 64) & (rows <= 4096)))
+    (definitions <= layout::MAX_DEFINITIONS)
+        & ((particles <= layout::MAX_PARTICLES)
+            & ((attributes <= layout::MAX_ATTRIBUTES) & (rows <= layout::MAX_ROWS)))
 }
 
 // Whether each body begins where the one before it ends.

@@ -19,6 +19,15 @@ pub const PARTICLE_SIZE: usize = 4;
 
 pub const NAME_WIDTH: usize = 16;
 
+/// The ceilings of a store.
+pub const MAX_DEFINITIONS: usize = 64;
+
+pub const MAX_PARTICLES: usize = 256;
+
+pub const MAX_ATTRIBUTES: usize = 64;
+
+pub const MAX_ROWS: usize = 4096;
+
 /// The most bytes that a form has, of the widest values: 64 definitions, 256 particles, 64 attributes of 116 bytes.
 pub const MOST_FORM: usize = 9728;
 

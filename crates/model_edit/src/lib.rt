@@ -22,7 +22,7 @@ fn keeps_within(store: &[u8], owner: usize, edit: Edit, holder: Holder, at: usiz
     requires { ⌜ Edits (now store) owner (editOf edit) holder at × (p ≡ length (formEdited (now store) owner (editOf edit) holder at .particles)) ⌝ }
     ensures { λ r. ⌜ r ≡ withinCeilings (bareForm (formEdited (now (store .entry)) owner (editOf edit) holder at)) ⌝ }
 {
-    if p > 256 {
+    if p > layout::MAX_PARTICLES {
         return false;
     }
     depth_check::is_within(model_places::own_part(store, owner), edit, holder, at)

@@ -1,11 +1,10 @@
 //! Marks of the definitions around a place of a model: new rows stand
 //! after the children that belong to earlier particles.
+use layout::MAX_DEFINITIONS;
 ghost use mathlib.Core.Path.{_≡_};
 ghost use Prim.Native.Nat.{_≤_};
 ghost use Rattle.circle_check.specs.Members.{elementsOf};
 ghost use Rattle.place_marks.specs.Marking.{markedFirst, marked, marksAt};
-
-const MAX_DEFINITIONS: usize = 64;
 
 // The value for the definition of the first particle, if that is an element (sort 0).
 fn mark_first(particles: &[u8], value: u8, marks: &mut [u8])

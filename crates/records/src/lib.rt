@@ -9,28 +9,6 @@ ghost use Rattle.rules.specs.Filling.{createdValue};
 ghost use Rattle.layout.specs.Bodies.{Width};
 ghost use Rattle.records.specs.Records.{filled, nameFits, valueFits, definitionFits, attributeFits, rowFits, eachFits};
 
-// ---- bytes
-
-/// What stands from n on.
-pub fn after(s: &[u8], n: usize) -> &[u8]
-    ensures { λ r. ⌜ now r ≡ drop n (now (s .entry)) ⌝ }
-{
-    if n < s.len() {
-        return &s[n..];
-    }
-    &s[..0]
-}
-
-/// The first n bytes, or all if there are fewer.
-pub fn first(s: &[u8], n: usize) -> &[u8]
-    ensures { λ r. ⌜ now r ≡ take n (now (s .entry)) ⌝ }
-{
-    if n < s.len() {
-        return &s[..n];
-    }
-    s
-}
-
 // ---- names and values
 
 /// Whether the bytes are a name that may stand in a store.
@@ -41,7 +19,7 @@ pub fn stored_name(s: &[u8]) -> bool
         return false;
     }
     byte_check::starts_name(s[0])
-        & byte_check::all_in_name(after(s, 1))
+        & byte_check::all_in_name(codec::after(s, 1))
         & (s.len() <= layout::NAME_WIDTH)
 }
 
@@ -74,8 +52,8 @@ fn filled(rec: &[u8], at: usize, used: usize, width: usize) -> bool
     if width < used {
         return false;
     }
-    let field = first(after(rec, at), width);
-    byte_check::zeros(after(field, used))
+    let field = codec::first(codec::after(rec, at), width);
+    byte_check::zeros(codec::after(field, used))
 }
 
 // Whether a name stands at `at`, with its length before it.
@@ -87,14 +65,15 @@ fn name_fits(rec: &[u8], at: usize) -> bool
     }
     let start = at + 1;
     let used = layout::wide(codec::byte(rec, at));
-    stored_name(first(after(rec, start), used)) & filled(rec, start, used, layout::NAME_WIDTH)
+    stored_name(codec::first(codec::after(rec, start), used))
+        & filled(rec, start, used, layout::NAME_WIDTH)
 }
 
 // Whether a value of `used` bytes stands at `at`.
 fn value_fits(w: usize, rec: &[u8], at: usize, used: usize) -> bool
     ensures { λ r. ⌜ r ≡ valueFits w (now (rec .entry)) at used ⌝ }
 {
-    is_value(w, first(after(rec, at), used)) & filled(rec, at, used, w)
+    is_value(w, codec::first(codec::after(rec, at), used)) & filled(rec, at, used, w)
 }
 
 // ---- records
@@ -143,7 +122,7 @@ pub fn row_fits(w: usize, rec: &[u8]) -> bool
     if !((sort == 2) | ((sort == 3) & (index == 0))) {
         return false;
     }
-    if !is_value(w, first(after(rec, layout::ROW_VALUE), used)) {
+    if !is_value(w, codec::first(codec::after(rec, layout::ROW_VALUE), used)) {
         return false;
     }
     filled(rec, layout::ROW_VALUE, used, w)
@@ -160,7 +139,7 @@ pub fn definitions_fit(body: &[u8], count: usize) -> bool
     let mut rest = body;
     let mut left = count;
     while 0 < left {
-        if !definition_fits(first(rest, layout::DEFINITION_SIZE)) {
+        if !definition_fits(codec::first(rest, layout::DEFINITION_SIZE)) {
             return false;
         }
         let read = layout::least(layout::DEFINITION_SIZE, rest.len());
@@ -179,7 +158,7 @@ pub fn attributes_fit(w: usize, body: &[u8], count: usize, n: usize) -> bool
     let mut rest = body;
     let mut left = count;
     while 0 < left {
-        if !attribute_fits(w, first(rest, size), n) {
+        if !attribute_fits(w, codec::first(rest, size), n) {
             return false;
         }
         let read = layout::least(size, rest.len());

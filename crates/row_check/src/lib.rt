@@ -1,5 +1,4 @@
 //! One pass over the tree rows: the fields of each, their depths, and whether they are those of documents that conform.
-use row_step::step;
 ghost use mathlib.Core.Path.{_≡_};
 ghost use mathlib.Core.Logic.{_↔_};
 ghost use mathlib.Core.Bool.{true};
@@ -38,7 +37,7 @@ fn pass(
     let mut m = count;
     while 0 < m {
         let row = &t[..size];
-        if !step(
+        if !row_step::step(
             version,
             w,
             n,

@@ -1,11 +1,10 @@
 //! The serials of the tree rows of a store: from 1, below the next serial, no two alike.
+use layout::MAX_ROWS;
 ghost use mathlib.Core.Path.{_≡_};
 ghost use Prim.Native.Nat.{_<_, _≤_};
 ghost use Rattle.layout.specs.Bodies.{Width};
 ghost use Rattle.serial_check.specs.Serials.{serialsOf, fitting, serialAtRow};
 ghost use Rattle.serial_check.specs.Trees.{Rising, Sought, Trees, Put};
-
-const MAX_ROWS: usize = 4096;
 
 // Four for each row.
 const PLACES: usize = 16384;

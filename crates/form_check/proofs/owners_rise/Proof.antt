@@ -29,7 +29,8 @@ returns c =
     let at-loop = c .before .before .before in
     let start = at-loop .before .before in
     let a = start .args in
-    sym (owners-off (at-loop .loop .least) (attributes-from (a .w) (at-loop .loop .i) (a .a) (a .attrs .now) (omega arith)) (c .before .attribute-owner-at .ensures) (c .if1 .taken)) ∙ at-loop .loop .inv
+    sym (owners-off (at-loop .loop .least) (attributes-from (a .w) (at-loop .loop .i) (a .a) (a .attrs .now) (omega arith))
+    (c .before .attribute-owner-at .ensures) (c .if1 .taken)) ∙ at-loop .loop .inv
 
 add-i : tie.Need-add-i Inv-loop μ-loop
 add-i c = omega arith

@@ -1,11 +1,11 @@
--- `records::first` meets its contract: below the length the first n bytes are n (`length-take-le` of lib.Seq), else
+-- `codec::first` meets its contract: below the length the first n bytes are n (`length-take-le` of lib.Seq), else
 -- they are all (`take-all`).
 use mathlib.Core.Path.{sym}
 use native.Mathlib.Omega.{arith}
 use lib.Seq.{take-all, length-take-le}
 use borrow.Author.Needs.{needs}
-use Rattle.records.proofs.first.Statement.{statement}
-use Rattle.records.proofs.first.Tie as tie
+use Rattle.codec.proofs.first.Statement.{statement}
+use Rattle.codec.proofs.first.Tie as tie
 
 slice-aggregate-result : tie.Need-slice-aggregate-result
 slice-aggregate-result c =

@@ -1,11 +1,11 @@
--- `records::after` meets its contract: below the length the part from n on is `drop n` (`tail-seen` of Writers in
--- `codec`), from there on `drop n` is empty (`drop-of-length-le` of lib.ListN).
+-- `codec::after` meets its contract: below the length the part from n on is `drop n` (`tail-seen` of
+-- Writers), from there on `drop n` is empty (`drop-of-length-le` of lib.ListN).
 use mathlib.Core.Path.{sym}
 use lib.ListN.{drop-of-length-le}
 use Rattle.codec.proofs.Writers.{tail-seen}
 use borrow.Author.Needs.{needs}
-use Rattle.records.proofs.after.Statement.{statement}
-use Rattle.records.proofs.after.Tie as tie
+use Rattle.codec.proofs.after.Statement.{statement}
+use Rattle.codec.proofs.after.Tie as tie
 
 sub-result : tie.Need-sub-result
 sub-result c = search needs

@@ -1,4 +1,4 @@
--- `declaration_printing::has_member` meets its contract: a particle of depth 0 is a member (`build-same` of
+-- `declaration_printing::has_members` meets its contract: a particle of depth 0 is a member (`build-same` of
 -- PreorderLaws in `rules`), a deeper one leaves the answer to the particles after it (`build-less`), and past the last
 -- there is no member (`from-none` of Laws in `lookup`).
 use borrow.Author.Needs.{needs}

@@ -1,5 +1,5 @@
 -- `form_index::particles_before` meets its contract: the invariant holds before the first definition (`summed-none` of
--- ReadingLaws) and after each, by the contract of `particles_of` (`before-more`), and past the last it is the contract
+-- ReadingLaws) and after each, by the contract of `model_length` (`before-more`), and past the last it is the contract
 -- (`summed-ends`). By the invariant `sum` is at most 4294967296 * j, so that it is in range.
 use Prim.Native.Nat.{_-_}
 use borrow.Author.Needs.{needs}

@@ -1,5 +1,5 @@
 -- `layout::attribute_sort` meets its contract: the first byte of what follows 18 bytes, as `readAttribute` reads the
--- sort, is byte 18 (`get-after` of LayoutLaws).
+-- sort, is byte 18 (`getD-drop` of the kit).
 use mathlib.Core.Path.{_∙_, sym}
 use borrow.Author.Needs.{needs}
 use lib.Seq.{getD-drop}

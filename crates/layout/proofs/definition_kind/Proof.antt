@@ -1,5 +1,5 @@
 -- `layout::definition_kind` meets its contract: the first byte of what follows 17 bytes, as `readDefinition` reads the
--- kind, is byte 17 (`get-after` of LayoutLaws).
+-- kind, is byte 17 (`getD-drop` of the kit).
 use mathlib.Core.Path.{_∙_, sym}
 use borrow.Author.Needs.{needs}
 use lib.Seq.{getD-drop}

@@ -1,4 +1,4 @@
--- `row_step::closes` meets its contract: a level that is owed something makes the answer false (`closing-no` of
+-- `row_step::levels_end` meets its contract: a level that is owed something makes the answer false (`closing-no` of
 -- LevelLaws), any other leaves it to the levels below it (`closing-on`), and with no level from `keep` on left it is
 -- true (`closing-ends`).
 use mathlib.Core.Path.{refl}

@@ -1,6 +1,6 @@
 -- `document_refusals::add_element_refusal` meets its contract: each return gives the number of the first condition of
--- change 12 that holds, those before it not holding: 3 or 6 (`add-early`), 7 (`add-7`), 8 (`add-8`), 15 where the parent
--- is not COMPLEX or its children would not fit (`add-15`), else 0 (`add-0`).
+-- change 12 that holds, those before it not holding: 3 or 6 (`add-early`), 7 (`add-7`), 8 (`add-8`), 15 where the
+-- parent is not COMPLEX or its children would not fit (`add-15`), else 0 (`add-0`).
 use mathlib.Core.Path.{refl, ap, _∙_}
 use native.Mathlib.Omega.{arith}
 use native.Mathlib.Numerals.{add-one}

@@ -1,5 +1,5 @@
--- `lookup::find_value` meets its contract: the invariant holds at first (`seek-start` of Laws). The row with the serial is
--- answered as `found_at` says (`seek-hit`), any other is passed (`seek-past`), and past the last row the answer is 7
+-- `lookup::find_value` meets its contract: the invariant holds at first (`seek-start` of Laws). The row with the serial
+-- is answered as `found_at` says (`seek-hit`), any other is passed (`seek-past`), and past the last row the answer is 7
 -- (`seek-none`). What `row_at` reads is row i of the store (`row-of`).
 use borrow.Author.Needs.{needs}
 use mathlib.Core.Path.{sym, ap, _∙_, subst}

@@ -1,6 +1,6 @@
--- `row_step::end` meets its contract: the proof is that of `levels_end` with 0 for `keep`: a level that is owed something
--- makes the answer false (`closing-no` of LevelLaws), any other leaves it to the levels below it (`closing-on`), and
--- with no level left it is true (`closing-ends`).
+-- `row_step::end` meets its contract: the proof is that of `levels_end` with 0 for `keep`: a level that is owed
+-- something makes the answer false (`closing-no` of LevelLaws), any other leaves it to the levels below it
+-- (`closing-on`), and with no level left it is true (`closing-ends`).
 use mathlib.Core.Path.{refl}
 use native.Mathlib.Omega.{arith}
 use borrow.Author.Tests.{not-true, not-false}

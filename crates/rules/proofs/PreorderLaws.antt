@@ -1,4 +1,5 @@
--- `build` undoes `flatten`, and `flatten` undoes `build` on rows whose depths rise by one at most, as those of a forest do.
+-- `build` undoes `flatten`, and `flatten` undoes `build` on rows whose depths rise by one at most, as those of a forest
+-- do.
 use Prim.Native.Nat.{ℕ, zero, suc, _+_, _-_, _≤_, _<_}
 use native.Mathlib.Omega.{arith}
 use mathlib.Core.Path.{_≡_, refl, ap, ap₂, _∙_, sym, subst}

@@ -1,1 +1,1 @@
-//! What the bytes of a store are read as, and a form by its bytes, as definitions and laws only: see specs/ and proofs/.
+//! What the bytes of a store are read as, and a form by its bytes: definitions and laws only, in specs/ and proofs/.

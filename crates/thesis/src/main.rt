@@ -1,4 +1,4 @@
-//! The thesis' fourteen examples on Article.dtd and its sample document: the number of each call, and the text after it.
+//! The thesis' fourteen examples on Article.dtd and its sample document: the number of each call, the text after it.
 mod article;
 mod examples;
 

@@ -104,8 +104,8 @@ pub record PlainRows (w : ℕ) (p : Plan) (rows : Bytes) (most : ℕ) (o : Open)
   pub same : (v : Bytes) (fill : ℕ → List (Deep FlatRow)) (xs : List (Deep FlatRow)) → walked p v fill o (readMany readRow (rowSize w) (r .count) rows ++ xs)
       ≡ readMany readRow (rowSize w) (r .count) rows ++ walked p v fill (r .opened) xs
 
--- before a row: once what comes of the m rows that are left is written, the whole is; they are rows of an old store, and
--- there is room for what may be written
+-- before a row: once what comes of the m rows that are left is written, the whole is; they are rows of an old store,
+-- and there is room for what may be written
 pub record WalkOn (w : ℕ) (p : Plan) (v : Bytes) (fill : ℕ → List (Deep FlatRow)) (whole : List (Deep FlatRow)) (c : Cursor) (out : Bytes) (t : Bytes) (m : ℕ) (at : Cursor) (o : Open)
     (out′ : Bytes) : Type 0 where
   pub goes : (r : Cursor) (out″ : Bytes) → Written w (walked p v fill o (readMany readRow (rowSize w) m t)) at out′ r out″ → Written w whole c out r out″

@@ -324,7 +324,7 @@ pub fn add_element(
 ) -> Answer
     ensures { λ r. ⌜ Promise (addElement parent child definition (now (text .entry))) (now (store .entry)) (now (out .entry)) (r .number) (r .length) (now (out .exit)) ⌝ }
 {
-    element_calls::add_element(store, parent, child, definition, text, out)
+    add_element_call::add_element(store, parent, child, definition, text, out)
 }
 
 #[no_mangle]
@@ -338,21 +338,21 @@ pub extern "C" fn formstore_add_element(
 ) -> Answer
     ensures { λ r. ⌜ Promise (addElement parent child definition (now (text .entry))) (now (store .entry)) (now (out .entry)) (r .number) (r .length) (now (out .exit)) ⌝ }
 {
-    element_calls::add_element(store, parent, child, definition, text, out)
+    add_element_call::add_element(store, parent, child, definition, text, out)
 }
 
 /// 13: destroys an element with all below it, or a whole document.
 pub fn destroy_element(store: &[u8], element: u32, out: &mut [u8]) -> Answer
     ensures { λ r. ⌜ Promise (destroyElement element) (now (store .entry)) (now (out .entry)) (r .number) (r .length) (now (out .exit)) ⌝ }
 {
-    element_calls::destroy_element(store, element, out)
+    destroy_element_call::destroy_element(store, element, out)
 }
 
 #[no_mangle]
 pub extern "C" fn formstore_destroy_element(store: &[u8], element: u32, out: &mut [u8]) -> Answer
     ensures { λ r. ⌜ Promise (destroyElement element) (now (store .entry)) (now (out .entry)) (r .number) (r .length) (now (out .exit)) ⌝ }
 {
-    element_calls::destroy_element(store, element, out)
+    destroy_element_call::destroy_element(store, element, out)
 }
 
 /// 14: sets an attribute of an element; a row that is there keeps its serial.
@@ -365,7 +365,7 @@ pub fn set_attribute(
 ) -> Answer
     ensures { λ r. ⌜ Promise (setAttribute element attribute (now (value .entry))) (now (store .entry)) (now (out .entry)) (r .number) (r .length) (now (out .exit)) ⌝ }
 {
-    attribute_row_calls::set_attribute(store, element, attribute, value, out)
+    set_attribute_call::set_attribute(store, element, attribute, value, out)
 }
 
 #[no_mangle]
@@ -378,14 +378,14 @@ pub extern "C" fn formstore_set_attribute(
 ) -> Answer
     ensures { λ r. ⌜ Promise (setAttribute element attribute (now (value .entry))) (now (store .entry)) (now (out .entry)) (r .number) (r .length) (now (out .exit)) ⌝ }
 {
-    attribute_row_calls::set_attribute(store, element, attribute, value, out)
+    set_attribute_call::set_attribute(store, element, attribute, value, out)
 }
 
 /// 15: destroys the row of an attribute of an element.
 pub fn destroy_attribute_row(store: &[u8], element: u32, attribute: u32, out: &mut [u8]) -> Answer
     ensures { λ r. ⌜ Promise (destroyAttributeRow element attribute) (now (store .entry)) (now (out .entry)) (r .number) (r .length) (now (out .exit)) ⌝ }
 {
-    attribute_row_calls::destroy_attribute_row(store, element, attribute, out)
+    destroy_attribute_row_call::destroy_attribute_row(store, element, attribute, out)
 }
 
 #[no_mangle]
@@ -397,7 +397,7 @@ pub extern "C" fn formstore_destroy_attribute_row(
 ) -> Answer
     ensures { λ r. ⌜ Promise (destroyAttributeRow element attribute) (now (store .entry)) (now (out .entry)) (r .number) (r .length) (now (out .exit)) ⌝ }
 {
-    attribute_row_calls::destroy_attribute_row(store, element, attribute, out)
+    destroy_attribute_row_call::destroy_attribute_row(store, element, attribute, out)
 }
 
 /// 16: sets the text of a PCDATA element.

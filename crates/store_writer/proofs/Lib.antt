@@ -2,5 +2,4 @@ pub mod LimitLaws
 pub mod OutcomeLaws
 pub mod CallLaws
 pub mod FormAnswers
-pub mod OrderLaws
 pub mod EditLaws

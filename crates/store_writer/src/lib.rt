@@ -1,7 +1,5 @@
-//! The store that a change leaves, written whole: the ceilings, the
-//! serials and the room first, then header, bodies and rows.
+//! The store that a change leaves, written whole where it keeps within the ceilings, the serials and the room.
 use row_walk::Plan;
-use store_limits::ROWS_PAST_CEILING;
 ghost use mathlib.Core.Path.{_≡_};
 ghost use mathlib.Core.Bool.{true};
 ghost use mathlib.Core.List.{_++_};
@@ -17,7 +15,7 @@ ghost use Rattle.layout.specs.Bodies.{Width, widthOf};
 ghost use Rattle.layout.specs.Header.{headed};
 ghost use Rattle.lookup.specs.Bodies.{bodiesOf};
 ghost use Rattle.row_writer.specs.Written.{newIn};
-ghost use Rattle.store_writer.specs.Writing.{limited, Heads};
+ghost use Rattle.store_writer.specs.Writing.{limited};
 ghost use Rattle.planned_rows.specs.Planned.{rowsAfter, planned, plannedIn};
 ghost use Rattle.store_laws.specs.Forms.{formRead, Forms};
 ghost use Rattle.planned_rows.specs.Walking.{Sized};
@@ -36,54 +34,6 @@ pub fn refused(number: u32) -> Answer
     ensures { λ r. ⌜ (r .number ≡ number) × (r .length ≡ 0) ⌝ }
 {
     Answer { number, length: 0 }
-}
-
-// Header and form of a store that gets another form.
-fn put_form(
-    w: usize,
-    store: &[u8],
-    form: &[u8],
-    next: usize,
-    d: usize,
-    p: usize,
-    a: usize,
-    r: usize,
-    out: &mut [u8],
-) -> usize
-    requires { ⌜ Width w × Heads (now form) next d p a r ⌝ }
-    ensures { λ at. ⌜ Laid (headed w next d p a r (now (store .entry)) ++ now (form .entry)) (now (out .entry)) 0 at (now (out .exit)) ⌝ }
-{
-    let at = layout_writer::put_header(w, store, next, d, p, a, r, out);
-    codec::put(form, out, at)
-}
-
-// Writes the store after a plan, for which there is room: the rows at their place, then the header, which has their
-// number, and the form.
-fn put_edited(
-    store: &[u8],
-    form: &[u8],
-    d: usize,
-    p: usize,
-    a: usize,
-    plan: Plan,
-    text: &[u8],
-    out: &mut [u8],
-) -> usize
-    requires { ⌜ (passes (now store) ≡ true) × (isValue (widthOf (now store)) (now text) ≡ true) × Sized plan × Forms (widthOf (now store)) (now form) d p a
-        × (limitOf (widthOf (now store)) (length (now form)) (length (rowsAfter plan (now text) (bodiesOf (now store))))
-        (numberAt nextAt 4 (now store) + newIn (rowsAfter plan (now text) (bodiesOf (now store)))) (length (now out))
-        ≡ 0) ⌝ }
-    ensures { λ r. ⌜ Laid
-        (flatBytes (widthOf (now (store .entry)))
-        (plannedIn (formRead (widthOf (now (store .entry))) (now (form .entry)) d p a) plan (now (text .entry)) (bodiesOf (now (store .entry)))))
-        (now (out .entry)) 0 r (now (out .exit)) ⌝ }
-{
-    let w = layout::width_in(store);
-    let start = layout::header_size() + form.len();
-    let written = planned_rows::walk_rows(store, plan, text, start, out);
-    let count = ROWS_PAST_CEILING - written.left;
-    put_form(w, store, form, written.serial, d, p, a, count, out);
-    written.at
 }
 
 /// The store after a plan and with another form: `form` holds the bytes of its d definitions, p particles and a
@@ -108,7 +58,7 @@ pub fn edit_form(
     if number != 0 {
         return refused(number);
     }
-    let length = put_edited(store, form, d, p, a, plan, text, out);
+    let length = plan_writer::put_edited(store, form, d, p, a, plan, text, out);
     Answer { number: 0, length }
 }
 

@@ -1,4 +1,4 @@
--- `attribute_row_calls::set_attribute` meets its contract: the call is refused on a bad store and by a condition
+-- `set_attribute_call::set_attribute` meets its contract: the call is refused on a bad store and by a condition
 -- (`bad`, `turned-away` of CallLaws). Else what its calls require holds (`set-attribute-there`, `set-attribute-asks` of
 -- Laws), and the plan does what the change does (`set-attribute-planned` of CallsPlanned, `made-planned` of Calls).
 use borrow.Author.Needs.{needs}
@@ -9,11 +9,11 @@ use Rattle.rules.specs.Change.{setAttribute}
 use Rattle.store_laws.specs.Stores.{storeIn}
 use Rattle.plans.specs.CallPlans.{setAttributePlan, attributeSerial}
 use Rattle.plans.proofs.CallsPlanned.{set-attribute-planned}
-use Rattle.attribute_row_calls.proofs.set_attribute.Statement.{statement}
-use Rattle.attribute_row_calls.proofs.set_attribute.Tie as tie
+use Rattle.set_attribute_call.proofs.set_attribute.Statement.{statement}
+use Rattle.set_attribute_call.proofs.set_attribute.Tie as tie
 use Rattle.store_writer.proofs.CallLaws.{passed, bad, turned-away}
 use Rattle.call_laws.proofs.Calls.{made-planned}
-use Rattle.attribute_row_calls.proofs.Laws.{set-attribute-asks, set-attribute-there}
+use Rattle.set_attribute_call.proofs.Laws.{set-attribute-asks, set-attribute-there}
 
 passes-requires : tie.Need-passes-requires
 passes-requires c κs = search needs

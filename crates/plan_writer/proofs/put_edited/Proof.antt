@@ -1,15 +1,15 @@
--- `store_writer::put_edited` meets its contract: the rows are written behind the place of header and form, then these
--- (`edited-laid` of EditLaws); the place is in range by `form-short` of FormBytesLaws, the count and the next serial,
+-- `plan_writer::put_edited` meets its contract: the rows are written behind the place of header and form, then these
+-- (`edited-laid` of EditedLaws); the place is in range by `form-short` of FormBytesLaws, the count and the next serial,
 -- those of the rows (`count-is`, `serial-is`), by `limit-within` of WithinLaws.
 use native.Mathlib.Omega.{arith}
 use Rattle.layout.proofs.LayoutLaws.{width-within}
 use Rattle.store_laws.proofs.StoreLaws.{holds}
 use Rattle.store_limits.proofs.WithinLaws.{limit-within}
 use Rattle.store_laws.proofs.FormBytesLaws.{form-short}
-use Rattle.store_writer.proofs.EditLaws.{heads-of, count-is, serial-is, edited-laid}
+use Rattle.plan_writer.proofs.EditedLaws.{heads-of, count-is, serial-is, edited-laid}
 use borrow.Author.Needs.{needs}
-use Rattle.store_writer.proofs.put_edited.Statement.{statement}
-use Rattle.store_writer.proofs.put_edited.Tie as tie
+use Rattle.plan_writer.proofs.put_edited.Statement.{statement}
+use Rattle.plan_writer.proofs.put_edited.Tie as tie
 
 width-in-requires : tie.Need-width-in-requires
 width-in-requires c κs = search needs

@@ -1,12 +1,12 @@
--- `store_writer::put_form` meets its contract: the header, then the form, are what is to be laid (`laid-then` of
+-- `plan_writer::put_form` meets its contract: the header, then the form, are what is to be laid (`laid-then` of
 -- Writers in `codec`); the header is no longer than its size, so that the form's place is in range (`headed-short` of
 -- HeaderLaws in `layout`).
 use native.Mathlib.Omega.{arith}
 use Rattle.codec.proofs.Writers.{laid-then}
 use Rattle.layout.proofs.HeaderLaws.{headed-short}
 use borrow.Author.Needs.{needs}
-use Rattle.store_writer.proofs.put_form.Statement.{statement}
-use Rattle.store_writer.proofs.put_form.Tie as tie
+use Rattle.plan_writer.proofs.put_form.Statement.{statement}
+use Rattle.plan_writer.proofs.put_form.Tie as tie
 
 put-header-requires : tie.Need-put-header-requires
 put-header-requires c κs = search needs

@@ -1,11 +1,10 @@
-//! Changes 12 and 13: an element added, and one destroyed. Each call is the check, the first refusal that applies, and
-//! the plan of the change.
+//! Change 12: an element added. The call is the check, the first refusal that applies, and the plan of the change.
 use filling::Filling;
 use row_walk::Later;
 use row_walk::Which;
 use store_writer::Answer;
 ghost use lib.ListN.{length};
-ghost use Rattle.rules.specs.Change.{addElement, destroyElement};
+ghost use Rattle.rules.specs.Change.{addElement};
 ghost use Rattle.rules.specs.Outcome.{outcome, Answers};
 
 /// 12: adds the filling of a definition as child number `child` of an element.
@@ -31,19 +30,4 @@ pub fn add_element(
     let filling = Filling::Definition(definition as usize);
     let plan = plans::filling_plan(Which::Serial(parent), Later::Row(row), filling);
     store_writer::edit(store, plan, text, out)
-}
-
-/// 13: destroys an element with all below it, or a whole document.
-pub fn destroy_element(store: &[u8], element: u32, out: &mut [u8]) -> Answer
-    ensures { λ r. ⌜ Answers (outcome (destroyElement element) (now (store .entry)) (length (now (out .entry)))) (now (out .entry)) (r .number) (r .length) (now (out .exit)) ⌝ }
-{
-    if !store_check::passes(store) {
-        return store_writer::refused(1);
-    }
-    let number = document_refusals::destroy_element_refusal(store, element);
-    if number != 0 {
-        return store_writer::refused(number);
-    }
-    let plan = plans::taking_plan(Which::Everything, Which::Serial(element));
-    store_writer::edit(store, plan, &store[..0], out)
 }

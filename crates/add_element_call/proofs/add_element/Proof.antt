@@ -1,4 +1,4 @@
--- `element_calls::add_element` meets its contract: the returns are for a bad store (`bad` of CallLaws), a condition
+-- `add_element_call::add_element` meets its contract: the returns are for a bad store (`bad` of CallLaws), a condition
 -- (`turned-away`) and the answer of `edit` (`made-planned` of Calls, `add-element-planned` of CallsPlanned); what
 -- `child_serial` and `edit` require is `add-element-there` and `add-element-asks` of Laws.
 use borrow.Author.Needs.{needs}
@@ -9,11 +9,11 @@ use Rattle.rules.specs.Change.{addElement}
 use Rattle.store_laws.specs.Stores.{storeIn}
 use Rattle.plans.specs.CallPlans.{addElementPlan, childSerial}
 use Rattle.plans.proofs.CallsPlanned.{add-element-planned}
-use Rattle.element_calls.proofs.add_element.Statement.{statement}
-use Rattle.element_calls.proofs.add_element.Tie as tie
+use Rattle.add_element_call.proofs.add_element.Statement.{statement}
+use Rattle.add_element_call.proofs.add_element.Tie as tie
 use Rattle.store_writer.proofs.CallLaws.{passed, bad, turned-away}
 use Rattle.call_laws.proofs.Calls.{made-planned}
-use Rattle.element_calls.proofs.Laws.{add-element-asks, add-element-there}
+use Rattle.add_element_call.proofs.Laws.{add-element-asks, add-element-there}
 
 passes-requires : tie.Need-passes-requires
 passes-requires c κs = search needs

@@ -1,4 +1,4 @@
--- `attribute_row_calls::destroy_attribute_row` meets its contract: the call is refused on a bad store and by a
+-- `destroy_attribute_row_call::destroy_attribute_row` meets its contract: the call is refused on a bad store and by a
 -- condition (`bad`, `turned-away` of CallLaws). Else what `edit` requires holds (`takes-asks` of Calls), and the plan
 -- does what the change does (`destroy-attribute-row-planned` of CallsPlanned, `made-planned` of Calls).
 use borrow.Author.Needs.{needs}
@@ -9,8 +9,8 @@ use Rattle.store_laws.specs.Stores.{storeIn}
 use Rattle.plans.specs.CallPlans.{destroyAttributeRowPlan}
 use Rattle.plans.proofs.CallsPlanned.{destroy-attribute-row-planned}
 use Rattle.row_walk.specs.declared.Which.the-variants.{Serial, Attributes}
-use Rattle.attribute_row_calls.proofs.destroy_attribute_row.Statement.{statement}
-use Rattle.attribute_row_calls.proofs.destroy_attribute_row.Tie as tie
+use Rattle.destroy_attribute_row_call.proofs.destroy_attribute_row.Statement.{statement}
+use Rattle.destroy_attribute_row_call.proofs.destroy_attribute_row.Tie as tie
 use Rattle.store_writer.proofs.CallLaws.{passed, bad, turned-away}
 use Rattle.call_laws.proofs.Calls.{made-planned, takes-asks}
 

@@ -1,4 +1,4 @@
--- `element_calls::destroy_element` meets its contract: the returns are for a bad store (`bad` of CallLaws), a condition
+-- `destroy_element_call::destroy_element` meets its contract: the returns are for a bad store (`bad` of CallLaws), a condition
 -- (`turned-away`) and the answer of `edit` (`made-planned` of Calls, `destroy-element-planned` of CallsPlanned); what
 -- `edit` requires is `takes-asks` of Calls.
 use borrow.Author.Needs.{needs}
@@ -9,8 +9,8 @@ use Rattle.store_laws.specs.Stores.{storeIn}
 use Rattle.plans.specs.CallPlans.{destroyElementPlan}
 use Rattle.plans.proofs.CallsPlanned.{destroy-element-planned}
 use Rattle.row_walk.specs.declared.Which.the-variants.{Everything, Serial}
-use Rattle.element_calls.proofs.destroy_element.Statement.{statement}
-use Rattle.element_calls.proofs.destroy_element.Tie as tie
+use Rattle.destroy_element_call.proofs.destroy_element.Statement.{statement}
+use Rattle.destroy_element_call.proofs.destroy_element.Tie as tie
 use Rattle.store_writer.proofs.CallLaws.{passed, bad, turned-away}
 use Rattle.call_laws.proofs.Calls.{made-planned, takes-asks}
 

@@ -110,7 +110,7 @@ pub clubform-end : Clubform
 unfolding valueWidth names nothing filling member full distinct facts continues accepts plug kindAt spine beforePlace around afterMembers find _⊕_ edited place
     placeOf goodDefinition wellFormed strip fitsRow conforming goodSerials good fillAttributes fillEach fillContent fillWithin findRow childrenOf attributeAt
     formAfter plan prune eachRow plant newRows given number after conditions refusal confirm outcome printed printOutcome untaken rowBySerial falls mark putSpot
-    spots expand spotCount note step run clubform
+    spots expand spotCount note step run
 clubform-end = record { size = refl; next = refl; check = refl; print = refl; rows = refl; row-count = refl; book-next = refl }
 
 -- the store's rows are the book's untaken lines, in its order

@@ -107,10 +107,10 @@ pub record Examples : Type 0 where
   pub p2 : accepts bytes optionalThenEither (b ∷ a ∷ []) ≡ false
   pub p2-language : Conforms optionalThenEither (b ∷ a ∷ []) → ⊥
   pub p3 : filling Sequence (group None Choice (el None a (el None b done)) (el Qmark c done)) ≡ a ∷ []
-  pub p4 : refuses (changeQuantifier 0 (2 ∷ []) 0 (ascii "t")) (storeOf starBetween (b ∷ a ∷ a ∷ a ∷ c ∷ [])) ≡ 0
   pub p4-first : serialsThen (changeQuantifier 0 (2 ∷ []) 0 (ascii "t")) (storeOf starBetween (b ∷ a ∷ a ∷ a ∷ c ∷ [])) ≡ 1 ∷ 2 ∷ 3 ∷ 6 ∷ []
-  pub p5 : refuses (changeQuantifier 0 (2 ∷ []) 0 (ascii "t")) (storeOf starBetween (b ∷ c ∷ [])) ≡ 0
+  pub p4 : refuses (changeQuantifier 0 (2 ∷ []) 0 (ascii "t")) (storeOf starBetween (b ∷ a ∷ a ∷ a ∷ c ∷ [])) ≡ 0
   pub p5-one : serialsThen (changeQuantifier 0 (2 ∷ []) 0 (ascii "t")) (storeOf starBetween (b ∷ c ∷ [])) ≡ 1 ∷ 2 ∷ 4 ∷ 3 ∷ []
+  pub p5 : refuses (changeQuantifier 0 (2 ∷ []) 0 (ascii "t")) (storeOf starBetween (b ∷ c ∷ [])) ≡ 0
   pub p6 : refuses (changeQuantifier 0 (1 ∷ 1 ∷ []) 1 []) (storeOf (group Star Sequence (el Star a (el None b done)) done) []) ≡ 13
   pub p7 : refuses (insertElement 1 (0 ∷ []) 0 2 []) races ≡ 11
   pub p8 : refuses (convertToGroup 0 (1 ∷ []) 2 2) (emptyOf (el None a (el None b done))) ≡ 14
@@ -134,10 +134,10 @@ examples =
       p2 = refl;
       p2-language = λ h. false≢true (accepts-conforms bytes optionalThenEither (distinct-test bytes (names optionalThenEither) .0 refl) (b ∷ a ∷ []) .1 h);
       p3 = refl;
-      p4 = refl;
       p4-first = refl;
-      p5 = refl;
+      p4 = refl;
       p5-one = refl;
+      p5 = refl;
       p6 = refl;
       p7 = refl;
       p8 = refl;

@@ -5,7 +5,7 @@ use mathlib.Core.Path.{_≡_, refl}
 use mathlib.Core.Option.{Option, none, some}
 use mathlib.Core.List.{List, [], _∷_, _++_, map}
 use Rattle.rules.specs.Bytes.{Bytes, ascii}
-use Rattle.rules.specs.declared.Quantifier.the-variants.{Star}
+use Rattle.rules.specs.declared.Quantifier.the-variants.{Qmark, Star}
 use Rattle.rules.specs.Model.{done, el, names, nothing, filling, member, full, distinct}
 use Rattle.rules.specs.Automaton.{accepts, continues, facts}
 use Rattle.rules.specs.Store.{empty, complex, Form, element, Store}
@@ -22,9 +22,85 @@ use Rattle.rules.specs.Change.{Call, createDefinition, insertElement, ch
 use Rattle.rules.specs.Change.{setAttribute, setText, attributeAt, formAfter, Plan, plan, prune, eachRow, plant, newRows, given, number, after}
 use Rattle.rules.specs.Refusal.{conditions, refusal}
 use Rattle.rules.specs.Outcome.{outcome}
-use Rattle.rules.specs.Book.{Entry, stands, taken, untaken, rowBySerial, falls, mark, old, spot, putSpot, spots, expand, spotCount, marks, note}
+use Rattle.rules.specs.Book.{Book, Entry, stands, taken, untaken, rowBySerial, falls, Mark, mark, old, spot, putSpot, spots, expand, spotCount, marks, note}
 use Rattle.rules.specs.Run.{Asked, Moment, start, step, run}
 
+-- ---- the worked example of specs/Book.antt: four lines, one of them taken; each race gets a split after its laps
+abbrev raceForm : Form
+raceForm =
+    record { name = ascii "race"; content = complex (el Star (ascii "lap") done); attributes = [] }
+    ∷ record { name = ascii "lap"; content = empty; attributes = [] }
+    ∷ record { name = ascii "split"; content = empty; attributes = [] }
+    ∷ []
+
+abbrev lineOf : ℕ → ℕ → Bytes → Line
+lineOf up k n = record { parent = up; row = record { serial = k; sort = element; name = n; value = [] } }
+
+abbrev race1 : Line
+race1 = lineOf 0 1 (ascii "race")
+
+abbrev lap2 : Line
+lap2 = lineOf 1 2 (ascii "lap")
+
+abbrev lap3 : Line
+lap3 = lineOf 1 3 (ascii "lap")
+
+abbrev race4 : Line
+race4 = lineOf 0 4 (ascii "race")
+
+abbrev fourLines : List Entry
+fourLines = stands race1 ∷ stands lap2 ∷ taken lap3 ∷ stands race4 ∷ []
+
+abbrev fourBook : Book
+fourBook = record { version = baseVersion; next = 5; form = raceForm; entries = fourLines }
+
+abbrev splitPlan : Plan
+splitPlan = plan (insertElement 0 (1 ∷ []) 2 0 (ascii "t")) baseVersion raceForm (untaken fourLines)
+
+-- race 1 gets a lap as its child 1: behind lap 2 and the line that was taken after it
+abbrev lapPlan : Plan
+lapPlan = plan (addElement 1 1 1 []) baseVersion raceForm (untaken fourLines)
+
+-- race (lap*,split?); race 1 has a split and no lap, race 3 a lap and no split
+abbrev splitForm : Form
+splitForm =
+    record { name = ascii "race"; content = complex (el Star (ascii "lap") (el Qmark (ascii "split") done)); attributes = [] }
+    ∷ record { name = ascii "lap"; content = empty; attributes = [] }
+    ∷ record { name = ascii "split"; content = empty; attributes = [] }
+    ∷ record { name = ascii "rest"; content = empty; attributes = [] }
+    ∷ []
+
+abbrev split2 : Line
+split2 = lineOf 1 2 (ascii "split")
+
+abbrev race3 : Line
+race3 = lineOf 0 3 (ascii "race")
+
+abbrev lap4 : Line
+lap4 = lineOf 3 4 (ascii "lap")
+
+abbrev splitLines : List Entry
+splitLines = stands race1 ∷ stands split2 ∷ stands race3 ∷ stands lap4 ∷ []
+
+abbrev splitMarks : Call → List Mark
+splitMarks k = marks (plan k baseVersion splitForm (untaken splitLines)) splitLines
+
+pub record Spots : Type 0 where
+  pub child-is : marks lapPlan fourLines ≡ old (stands race1) ∷ old (stands lap2) ∷ old (taken lap3) ∷ spot 1 ∷ old (stands race4) ∷ []
+  -- exactly one lap: race 1 gets it before its split
+  pub gain-is : splitMarks (changeQuantifier 0 (1 ∷ []) 0 []) ≡ old (stands race1) ∷ spot 1 ∷ old (stands split2) ∷ old (stands race3) ∷ old (stands lap4) ∷ []
+  -- a rest between lap and split: where no lap stands, before the split
+  pub insert-is : splitMarks (insertElement 0 (1 ∷ []) 3 0 [])
+      ≡ old (stands race1) ∷ spot 1 ∷ old (stands split2) ∷ old (stands race3) ∷ old (stands lap4) ∷ spot 3 ∷ []
+  pub marks-are : marks splitPlan fourLines
+      ≡ old (stands race1) ∷ old (stands lap2) ∷ old (taken lap3) ∷ spot 1 ∷ old (stands race4) ∷ spot 4 ∷ []
+  pub lines-are : expand (splitPlan .filling) 5 (marks splitPlan fourLines)
+      ≡ stands race1 ∷ stands lap2 ∷ taken lap3 ∷ stands (lineOf 1 5 (ascii "split")) ∷ stands race4 ∷ stands (lineOf 4 6 (ascii "split")) ∷ []
+  pub next-is : note (insertElement 0 (1 ∷ []) 2 0 (ascii "t")) fourBook .next ≡ 7
+  -- destroying race 1 takes its lap with it
+  pub below-is : note (destroyElement 1) fourBook .entries ≡ taken race1 ∷ taken lap2 ∷ taken lap3 ∷ stands race4 ∷ []
+
+-- ---- a history
 abbrev asked : Call → Asked
 asked c = record { call = c; room = 1000 }
 
@@ -86,7 +162,9 @@ cut = run (laps ++ (splits ++ oneLap)) start
 abbrev end : Moment
 end = run (laps ++ (splits ++ (oneLap ++ refusedCalls))) start
 
+-- The small example stands first: of a definition that is changed the prover shows there what it computes to, and soon.
 pub record Laps : Type 0 where
+  pub spots-are : Spots
   pub lines : serialsOf (untaken (made .book .entries)) ≡ 1 ∷ 3 ∷ 4 ∷ 5 ∷ 6 ∷ 7 ∷ 8 ∷ 9 ∷ 2 ∷ 10 ∷ []
   pub parents : parentsOf (untaken (made .book .entries)) ≡ 0 ∷ 1 ∷ 3 ∷ 3 ∷ 1 ∷ 6 ∷ 6 ∷ 1 ∷ 0 ∷ 2 ∷ []
   pub values : valuesOf (untaken (made .book .entries)) ≡ [] ∷ [] ∷ ascii "x" ∷ ascii "12" ∷ [] ∷ ascii "y" ∷ ascii "11" ∷ [] ∷ [] ∷ [] ∷ []
@@ -106,6 +184,7 @@ unfolding valueWidth names nothing filling member full distinct facts continues 
     spotCount note step run laps splits oneLap refusedCalls
 laps-end =
     record {
+      spots-are = record { child-is = refl; gain-is = refl; insert-is = refl; marks-are = refl; lines-are = refl; next-is = refl; below-is = refl };
       lines = refl;
       parents = refl;
       values = refl;
@@ -117,44 +196,3 @@ laps-end =
       next-book = refl;
       next-store = refl;
     }
-
--- ---- the worked example of specs/Book.antt: four lines, one of them taken; each race gets a split after its laps
-abbrev raceForm : Form
-raceForm =
-    record { name = ascii "race"; content = complex (el Star (ascii "lap") done); attributes = [] }
-    ∷ record { name = ascii "lap"; content = empty; attributes = [] }
-    ∷ record { name = ascii "split"; content = empty; attributes = [] }
-    ∷ []
-
-abbrev lineOf : ℕ → ℕ → Bytes → Line
-lineOf up k n = record { parent = up; row = record { serial = k; sort = element; name = n; value = [] } }
-
-abbrev race1 : Line
-race1 = lineOf 0 1 (ascii "race")
-
-abbrev lap2 : Line
-lap2 = lineOf 1 2 (ascii "lap")
-
-abbrev lap3 : Line
-lap3 = lineOf 1 3 (ascii "lap")
-
-abbrev race4 : Line
-race4 = lineOf 0 4 (ascii "race")
-
-abbrev fourLines : List Entry
-fourLines = stands race1 ∷ stands lap2 ∷ taken lap3 ∷ stands race4 ∷ []
-
-abbrev splitPlan : Plan
-splitPlan = plan (insertElement 0 (1 ∷ []) 2 0 (ascii "t")) baseVersion raceForm (untaken fourLines)
-
-pub record Spots : Type 0 where
-  pub marks-are : marks splitPlan fourLines
-      ≡ old (stands race1) ∷ old (stands lap2) ∷ old (taken lap3) ∷ spot 1 ∷ old (stands race4) ∷ spot 4 ∷ []
-  pub lines-are : expand (splitPlan .filling) 5 (marks splitPlan fourLines)
-      ≡ stands race1 ∷ stands lap2 ∷ taken lap3 ∷ stands (lineOf 1 5 (ascii "split")) ∷ stands race4 ∷ stands (lineOf 4 6 (ascii "split")) ∷ []
-  pub next-is : note (insertElement 0 (1 ∷ []) 2 0 (ascii "t")) (record { version = baseVersion; next = 5; form = raceForm; entries = fourLines }) .next ≡ 7
-
-pub spots-example : Spots
-unfolding names nothing filling member plug kindAt spine beforePlace afterMembers find _⊕_ edited place placeOf fillAttributes fillEach fillContent fillWithin
-    findRow childrenOf formAfter plan newRows given number untaken rowBySerial falls mark putSpot spots expand spotCount note
-spots-example = record { marks-are = refl; lines-are = refl; next-is = refl }

@@ -11,7 +11,7 @@ ghost use lib.ListN.{length};
 ghost use Rattle.rules.specs.declared.GroupKind.the-variants.{Sequence, Choice};
 ghost use Rattle.rules.specs.Bytes.{numbers};
 ghost use Rattle.rules.specs.Layout.{particleSize};
-ghost use Rattle.rules.specs.Automaton.{single, empty, join, quantify, facts};
+ghost use Rattle.rules.specs.Automaton.{single, empty, join, quantifyFacts, facts};
 ghost use Rattle.model.specs.Particle.{firstFacts};
 ghost use Rattle.model.specs.Members.{membersFrom, allMembers};
 ghost use Rattle.model.specs.Steps.{steps, finishes};
@@ -67,7 +67,7 @@ fn joined(kind: GroupKind, f: Facts, g: Facts) -> Facts
 }
 
 fn quantified(q: Quantifier, f: Facts) -> Facts
-    ensures { λ r. ⌜ r ≡ quantify q f ⌝ }
+    ensures { λ r. ⌜ r ≡ quantifyFacts q f ⌝ }
 {
     let again = f.follow | (f.last & f.first);
     match q {

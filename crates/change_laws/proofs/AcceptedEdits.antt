@@ -19,7 +19,7 @@ use Rattle.rules.specs.Change.{Call, createDefinition, destroyDefinition, inser
 use Rattle.rules.specs.Change.{changeGroupQuantifier, addAttribute, destroyAttribute, addDocument, addElement, destroyElement, setAttribute}
 use Rattle.rules.specs.Change.{destroyAttributeRow, setText, definitionAt, nameAtIndex, editModel, formAfter, insertPlan, removePlan, quantifyPlan, pickedPlan}
 use Rattle.rules.specs.Change.{plan}
-use Rattle.rules.specs.Refusal.{past as beyond, instanceExists, atPlace, noPlace, onElement, onGroup, noElementAt, noGroupAt, tailOf, flattenUnlike, isComplex, conditions}
+use Rattle.rules.specs.Refusal.{pastEnd, instanceExists, atPlace, noPlace, onElement, onGroup, noElementAt, noGroupAt, tailOf, flattenUnlike, isComplex, conditions}
 use Rattle.rules.proofs.Children.{misplaced, unfit}
 use Rattle.rules.proofs.Height.{reaches-test}
 use Rattle.rules.proofs.WellFormedLaws.{well-formed}
@@ -53,10 +53,10 @@ pub record Accepted (s : Store) (c : Call) : Type 0 where
 
 -- ---- the calls
 module _ (w : ℕ) (s : Store) (ok : wellFormed w (s .form) ≡ true) (o : ℕ) (p : List ℕ) where
-  inside-lookup : (i : ℕ) → beyond i (s .form) ≡ false → lookup (nameAtIndex i (s .form)) (s .form) ≡ some (definitionAt i (s .form))
+  inside-lookup : (i : ℕ) → pastEnd i (s .form) ≡ false → lookup (nameAtIndex i (s .form)) (s .form) ≡ some (definitionAt i (s .form))
   inside-lookup i e = definition-found i (s .form) (well-formed w (s .form) .0 ok .names) (not-past i (s .form) e)
 
-  accept : (c : Call) (e : Edit Bytes) (txt : Bytes) (f : Found Bytes) → beyond o (s .form) ≡ false → placeOf e p (members (definitionAt o (s .form))) ≡ some f
+  accept : (c : Call) (e : Edit Bytes) (txt : Bytes) (f : Found Bytes) → pastEnd o (s .form) ≡ false → placeOf e p (members (definitionAt o (s .form))) ≡ some f
       → isComplex (definitionAt o (s .form) .content) ≡ true
       → misplaced bytes e (f .context) (f .picked) ≡ false → (instanceExists (nameAtIndex o (s .form)) s ≡ true → unfit e (f .context) (f .picked) ≡ false)
       → Insertable (s .form) (nameAtIndex o (s .form)) e
@@ -98,7 +98,7 @@ module _ (w : ℕ) (s : Store) (ok : wellFormed w (s .form) ≡ true) (o : ℕ) 
 
       outside : Joins (s .form) (nameAtIndex o (s .form)) n
       outside =
-          let (a, b) = or-split (beyond o (s .form)) (beyond i (s .form)) c6 in
+          let (a, b) = or-split (pastEnd o (s .form)) (pastEnd i (s .form)) c6 in
           let (x, y) = or-split (same n (nameAtIndex o (s .form))) (reachesIn (s .form) n (nameAtIndex o (s .form))) c11 in
           record {
             known = ap isThere (inside-lookup i b);
@@ -110,7 +110,7 @@ module _ (w : ℕ) (s : Store) (ok : wellFormed w (s .form) ≡ true) (o : ℕ) 
           → (instanceExists (nameAtIndex o (s .form)) s && atPlace (λ c y. insertOff c (quantifierOf q)) x) ≡ false → Accepted s (insertElement o p i q t)
       by none at a b = absurd (false≢true (sym a))
       by (some f) at a b =
-          accept (insertElement o p i q t) e t f (or-split (beyond o (s .form)) (beyond i (s .form)) c6 .0) at (not-false (isComplex (definitionAt o (s .form) .content)) c9)
+          accept (insertElement o p i q t) e t f (or-split (pastEnd o (s .form)) (pastEnd i (s .form)) c6 .0) at (not-false (isComplex (definitionAt o (s .form) .content)) c9)
           (ap (λ (z : Members Bytes). member bytes n (names z)) (place-right e p model f at) ∙ c10)
           (λ x. and-second (instanceExists (nameAtIndex o (s .form)) s) (insertOff (f .context) (quantifierOf q)) b x) outside
           (λ ls. ap (insertPlan (s .version) (s .form) (nameAtIndex o (s .form)) t (quantifierOf q) n) at) refl
@@ -131,7 +131,7 @@ module _ (w : ℕ) (s : Store) (ok : wellFormed w (s .form) ≡ true) (o : ℕ) 
   quantified : (c : Call) (r : Quantifier) (t : Bytes)
       → ((ls : List Line) → plan c (s .version) (s .form) ls
       ≡ pickedPlan (quantifyPlan (s .version) (s .form) ls (nameAtIndex o (s .form)) t r) (placeOf (quantify r) p (members (definitionAt o (s .form)))))
-      → formAfter c (s .form) ≡ editModel o p (quantify r) (s .form) → beyond o (s .form) ≡ false → (f : Found Bytes)
+      → formAfter c (s .form) ≡ editModel o p (quantify r) (s .form) → pastEnd o (s .form) ≡ false → (f : Found Bytes)
       → placeOf (quantify r) p (members (definitionAt o (s .form))) ≡ some f → isDone (f .picked) ≡ false
       → (instanceExists (nameAtIndex o (s .form)) s ≡ true → unfit (quantify r) (f .context) (f .picked) ≡ false) → Accepted s c
   quantified c r t pl fo l f at a u =

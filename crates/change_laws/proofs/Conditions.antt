@@ -13,12 +13,12 @@ use Rattle.rules.specs.WellFormed.{withinCeilings, highestNumber}
 use Rattle.rules.specs.Change.{Call, createDefinition, destroyDefinition, insertElement, removeElement, changeQuantifier, convertToGroup, flattenGroup}
 use Rattle.rules.specs.Change.{changeGroupQuantifier, addAttribute, destroyAttribute, addDocument, addElement, destroyElement, setAttribute}
 use Rattle.rules.specs.Change.{destroyAttributeRow, setText, after}
-use Rattle.rules.specs.Refusal.{Condition, first, past, conditions, limits, refusal}
+use Rattle.rules.specs.Refusal.{Condition, first, pastEnd, conditions, limits, refusal}
 use Rattle.rules.proofs.Words.{and-split}
 
 -- ---- tests that are false
 -- an index that is not past the end
-pub not-past : {A : Type 0} (i : ℕ) (xs : List A) → past i xs ≡ false → i < length xs
+pub not-past : {A : Type 0} (i : ℕ) (xs : List A) → pastEnd i xs ≡ false → i < length xs
 not-past i xs e = ltb-true i (length xs) (not-false (ltb i (length xs)) e)
 
 -- ---- the first that holds is 0: none does

@@ -18,7 +18,7 @@ use Rattle.rules.specs.Change.{Call, createDefinition, destroyDefinition, inser
 use Rattle.rules.specs.Change.{changeGroupQuantifier, addAttribute, destroyAttribute, addDocument, addElement, destroyElement, setAttribute}
 use Rattle.rules.specs.Change.{destroyAttributeRow, setText, definitionAt, nameAtIndex, Owned, attributeAt, update, inContent, inModel, withAttributes, editAt}
 use Rattle.rules.specs.Change.{editFound, editModel, lacking, dropOwned, newAttribute, formAfter}
-use Rattle.rules.specs.Refusal.{past, wrongDefault, conditions, refusal}
+use Rattle.rules.specs.Refusal.{pastEnd, wrongDefault, conditions, refusal}
 use Rattle.rules.proofs.Words.{and-both, or-split}
 use Rattle.rules.proofs.Children.{Sound}
 use Rattle.rules.proofs.TestLaws.{any-test, member-test}
@@ -149,7 +149,7 @@ module _ (room : ℕ) (s : Store) (ok : wellFormed (valueWidth (s .version)) (s 
   unfolding formAfter conditions
   after-insert o p i q t a =
       let (text, (code, (known, (there, (kind, (once, (circle, more))))))) = unmet room (insertElement o p i q t) s a in
-      let (ownerKnown, newKnown) = or-split (past o (s .form)) _ known in
+      let (ownerKnown, newKnown) = or-split (pastEnd o (s .form)) _ known in
       let n : Bytes = nameAtIndex i (s .form) in
       let owner : Definition = definitionAt o (s .form) in
       let (other, straight) = or-split (same n (owner .name)) (reachesIn (s .form) n (owner .name)) circle in
@@ -161,7 +161,7 @@ module _ (room : ℕ) (s : Store) (ok : wellFormed (valueWidth (s .version)) (s 
       }))
 
   -- 4 to 8 bring no name
-  after-edit : (o : ℕ) (p : List ℕ) (e : Edit Bytes) → past o (s .form) ≡ false → brings e ≡ [] → Placed bytes e p (members (definitionAt o (s .form)))
+  after-edit : (o : ℕ) (p : List ℕ) (e : Edit Bytes) → pastEnd o (s .form) ≡ false → brings e ≡ [] → Placed bytes e p (members (definitionAt o (s .form)))
       → wellFormed w (editModel o p e (s .form)) ≡ true
   after-edit o p e known b x = model-edited w (s .form) ok o (not-past o (s .form) known) e p x (λ m j. absurd (List·Memᴰ·not-nil (rw b at j)))
 

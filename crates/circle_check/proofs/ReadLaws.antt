@@ -13,11 +13,11 @@ use borrow.Author.Tests.{ne-eqb}
 use Rattle.rules.specs.Bytes.{Bytes}
 use Rattle.rules.specs.Model.{names, Distinct}
 use Rattle.rules.specs.Store.{Attribute, Form, Forest, bare, tree, modelOf, members}
-use Rattle.rules.specs.Preorder.{Deep, flatten, build}
+use Rattle.rules.specs.Preorder.{Deep, preorder, build}
 use Rattle.rules.specs.Layout.{definitionSize, particleSize, FlatDefinition, FlatParticle, FlatAttribute}
 use Rattle.rules.specs.Decode.{nameAt, readDefinition, readParticle, readMany, contentOf, memberOf, readMembers, ofOwner, readForm, flatName}
 use Rattle.rules.specs.WellFormed.{definitionName, Reaches}
-use Rattle.rules.proofs.PreorderLaws.{rising, flatten-build}
+use Rattle.rules.proofs.PreorderLaws.{rising, preorder-build}
 use Rattle.form_check.specs.FormTests.{elementsIn}
 use Rattle.codec.specs.Part.{partOf}
 use Rattle.codec.proofs.Strings.{part-there}
@@ -46,22 +46,22 @@ Leaves (tree p b t) = (p .sort ≡ 0 → b ≡ bare) × Leaves b × Leaves t
 
 module _ (ns : List Bytes) where
   names-tree : (d : ℕ) (p : FlatParticle) (b t : Forest FlatParticle) (k : ℕ) → p .sort ≡ k → (k ≡ 0 → b ≡ bare)
-      → names (readMembers ns b) ≡ map (λ j. nameAt j ns) (elementsIn (flatten (suc d) b))
-      → names (readMembers ns t) ≡ map (λ j. nameAt j ns) (elementsIn (flatten d t))
+      → names (readMembers ns b) ≡ map (λ j. nameAt j ns) (elementsIn (preorder (suc d) b))
+      → names (readMembers ns t) ≡ map (λ j. nameAt j ns) (elementsIn (preorder d t))
       → names (memberOf ns p k (readMembers ns b) (readMembers ns t))
       ≡ map (λ j. nameAt j ns)
-      (elim (eqb k 0) [ true ↦ p .index ∷ elementsIn (flatten (suc d) b ++ flatten d t) | false ↦ elementsIn (flatten (suc d) b ++ flatten d t) ])
+      (elim (eqb k 0) [ true ↦ p .index ∷ elementsIn (preorder (suc d) b ++ preorder d t) | false ↦ elementsIn (preorder (suc d) b ++ preorder d t) ])
   unfolding names elementsIn
   names-tree d p b t zero e l x y = rw (l refl) (ap (λ (z : List Bytes). nameAt (p .index) ns ∷ z) y)
   names-tree d p b t (suc k) e l x y =
       ap₂ (λ (u v : List Bytes). u ++ v) x y
-      ∙ sym (map-append (λ j. nameAt j ns) (elementsIn (flatten (suc d) b)) (elementsIn (flatten d t)))
-      ∙ ap (λ (z : List ℕ). map (λ j. nameAt j ns) z) (sym (elements-append (flatten (suc d) b) (flatten d t)))
+      ∙ sym (map-append (λ j. nameAt j ns) (elementsIn (preorder (suc d) b)) (elementsIn (preorder d t)))
+      ∙ ap (λ (z : List ℕ). map (λ j. nameAt j ns) z) (sym (elements-append (preorder (suc d) b) (preorder d t)))
       ∙ ap (λ (c : Bool). map (λ j. nameAt j ns)
-      (elim c [ true ↦ p .index ∷ elementsIn (flatten (suc d) b ++ flatten d t) | false ↦ elementsIn (flatten (suc d) b ++ flatten d t) ]))
+      (elim c [ true ↦ p .index ∷ elementsIn (preorder (suc d) b ++ preorder d t) | false ↦ elementsIn (preorder (suc d) b ++ preorder d t) ]))
       (sym (ne-eqb (suc k) 0 (λ z. omega arith)))
 
-  pub names-elements : (d : ℕ) (f : Forest FlatParticle) → Leaves f → names (readMembers ns f) ≡ map (λ j. nameAt j ns) (elementsIn (flatten d f))
+  pub names-elements : (d : ℕ) (f : Forest FlatParticle) → Leaves f → names (readMembers ns f) ≡ map (λ j. nameAt j ns) (elementsIn (preorder d f))
   unfolding names elementsIn
   names-elements d bare l = refl
   names-elements d (tree p b t) (l, lb, lt) = names-tree d p b t (p .sort) refl l (names-elements (suc d) b lb) (names-elements d t lt)
@@ -96,7 +96,7 @@ module _ (ns : List Bytes) where
       by : (k : ℕ) → d .kind ≡ k → names (modelOf (contentOf k (readMembers ns (build xs 0)))) ≡ map (λ j. nameAt j ns) (elementsIn xs)
       by zero e = few (omega arith)
       by (suc zero) e = few (omega arith)
-      by (suc (suc k)) e = names-elements ns 0 (build xs 0) (s .leaves) ∙ ap (λ (l : List (Deep FlatParticle)). map (λ j. nameAt j ns) (elementsIn l)) (flatten-build xs (s .rises))
+      by (suc (suc k)) e = names-elements ns 0 (build xs 0) (s .leaves) ∙ ap (λ (l : List (Deep FlatParticle)). map (λ j. nameAt j ns) (elementsIn l)) (preorder-build xs (s .rises))
 
   pub models-read : (indices : ℕ → List ℕ) (o : ℕ) (ds : List FlatDefinition) (ps : List (Deep FlatParticle)) (cs : List FlatAttribute) → AllShaped ds ps
       → ((i : ℕ) → i < length ds → indices (o + i) ≡ elementsIn (modelAt i ds ps)) → Models ns indices o (readForm ns o ds ps cs)

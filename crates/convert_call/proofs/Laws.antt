@@ -12,7 +12,7 @@ use Rattle.rules.specs.Decode.{groupOf}
 use Rattle.rules.specs.Lines.{Line}
 use Rattle.rules.specs.Passing.{passes}
 use Rattle.rules.specs.Change.{convertToGroup, editModel, keeping, plan, formAfter}
-use Rattle.rules.specs.Refusal.{past, foundAt, noPlace, atPlace, first, conditions}
+use Rattle.rules.specs.Refusal.{pastEnd, foundAt, noPlace, atPlace, first, conditions}
 use Rattle.change_laws.proofs.EditConditions.{has-some}
 use Rattle.store_laws.specs.Stores.{storeIn}
 use Rattle.model_places.proofs.PlaceLaws.{found-convert}
@@ -35,7 +35,7 @@ module _ (bs : Bytes) (q : passes bs ≡ true) (o : ℕ) (p : List ℕ) where
   convert-fits n k e =
       let (code, (index, (place, more))) = none-holds (convertToGroup o p n k) (storeIn bs) e in by (foundAt (convert (groupOf k) n) o p (storeIn bs)) refl index place
     where
-      by : (f : Option (Spot Bytes)) → foundAt (convert (groupOf k) n) o p (storeIn bs) ≡ f → past o (storeIn bs .form) ≡ false
+      by : (f : Option (Spot Bytes)) → foundAt (convert (groupOf k) n) o p (storeIn bs) ≡ f → pastEnd o (storeIn bs .form) ≡ false
           → (noPlace f || atPlace (λ c x. not (hasMembers n x)) f) ≡ false → Fits bs o p (convert (groupOf k) n)
       by none at i h = absurd (false≢true (sym h))
       by (some f) at i h = fits-at bs q o p (convert (groupOf k) n) f (found-convert (groupOf k) n o p bs) i at (has-some n (f .picked) h) (not-false (hasMembers n (f .picked)) h)

@@ -15,7 +15,7 @@ use Rattle.rules.specs.Decode.{readParticle, readRow, readMany, definitionCount
 use Rattle.rules.specs.Lines.{elementNamed}
 use Rattle.rules.specs.Passing.{passes}
 use Rattle.rules.specs.Change.{destroyDefinition, nameAtIndex}
-use Rattle.rules.specs.Refusal.{first, conditions, past, _if_}
+use Rattle.rules.specs.Refusal.{first, conditions, pastEnd, _if_}
 use Rattle.rules.proofs.Words.{or-split}
 use Rattle.change_laws.proofs.Conditions.{first-append, conditions-numbered, not-past}
 use Rattle.layout.specs.Bodies.{WidthIn, Number, particlesIn, treeRowsIn}
@@ -84,7 +84,7 @@ module _ (bs : Bytes) (i : ℕ) (p : passes bs ≡ true) where
       unused e = sym (in-use ∙ ap (tests true) e)
 
   -- no condition holds
-  pub unmet : condition ≡ 0 → (past i (s .form) ≡ false) × (inModels ≡ false) × (inRoots ≡ false)
+  pub unmet : condition ≡ 0 → (pastEnd i (s .form) ≡ false) × (inModels ≡ false) × (inRoots ≡ false)
   unfolding conditions
   unmet z =
       let (there, (used, end)) = first-append (conditions (destroyDefinition i) s) [] (conditions-numbered (destroyDefinition i) s) z .0 in

@@ -12,7 +12,7 @@ use Rattle.rules.specs.declared.GroupKind.the-variants.{Sequence, Choice}
 use Rattle.rules.specs.Bytes.{Bytes, same, bytes, any}
 use Rattle.rules.specs.Model.{Members, done, el, group, names, member, Distinct}
 use Rattle.rules.specs.Store.{Content, empty, pcdata, complex, Definition, Form, Row, Forest, bare, tree, Store, modelOf, members, heads}
-use Rattle.rules.specs.Preorder.{flatten}
+use Rattle.rules.specs.Preorder.{preorder}
 use Rattle.rules.specs.Layout.{particles, contentParticles, allParticles, indexed, flat, rowCode, rowIndex, quantifierCode, groupCode, howMany, valueWidth}
 use Rattle.rules.specs.WellFormed.{definitionName}
 use Rattle.rules.specs.Lines.{elementNamed}
@@ -33,7 +33,7 @@ module _ (form : Form) (once : Distinct (map definitionName form)) (i : ℕ) (h 
   group-not d q j Sequence = refl
   group-not d q j Choice = refl
 
-  model-has : (d : ℕ) (ms : Members Bytes) → any (isMember i) (flatten d (particles form ms)) ≡ member bytes n (names ms)
+  model-has : (d : ℕ) (ms : Members Bytes) → any (isMember i) (preorder d (particles form ms)) ≡ member bytes n (names ms)
   unfolding names member
   model-has d done = refl
   model-has d (el q m rest) =
@@ -43,8 +43,8 @@ module _ (form : Form) (once : Distinct (map definitionName form)) (i : ℕ) (h 
       or-member true c = refl
       or-member false c = refl
   model-has d (group q c ms rest) =
-      ap (λ (b : Bool). b || any (isMember i) (flatten (suc d) (particles form ms) ++ flatten d (particles form rest))) (group-not d (quantifierCode q) (howMany ms) c)
-      ∙ any-append (isMember i) (flatten (suc d) (particles form ms)) (flatten d (particles form rest))
+      ap (λ (b : Bool). b || any (isMember i) (preorder (suc d) (particles form ms) ++ preorder d (particles form rest))) (group-not d (quantifierCode q) (howMany ms) c)
+      ∙ any-append (isMember i) (preorder (suc d) (particles form ms)) (preorder d (particles form rest))
       ∙ ap₂ (λ (x y : Bool). x || y) (model-has (suc d) ms) (model-has d rest)
       ∙ sym (member-append n (names ms) (names rest))
 
@@ -60,21 +60,21 @@ module _ (form : Form) (once : Distinct (map definitionName form)) (i : ℕ) (h 
       any-append (isMember i) (contentParticles form (d .content)) (allParticles form ds) ∙ ap₂ (λ (x y : Bool). x || y) (content-has (d .content)) (models-have ds)
 
   -- ---- roots
-  deeper-not : (d : ℕ) (owner : Bytes) (f : Forest Row) → any (isRoot i) (flatten (suc d) (indexed form owner f)) ≡ false
+  deeper-not : (d : ℕ) (owner : Bytes) (f : Forest Row) → any (isRoot i) (preorder (suc d) (indexed form owner f)) ≡ false
   deeper-not d owner bare = refl
   deeper-not d owner (tree r b t) =
       ap
       (λ (x : Bool). (x && (eqb (rowCode (r .sort)) 1 && eqb (rowIndex form owner r) i))
-      || any (isRoot i) (flatten (suc (suc d)) (indexed form (r .name) b) ++ flatten (suc d) (indexed form owner t)))
+      || any (isRoot i) (preorder (suc (suc d)) (indexed form (r .name) b) ++ preorder (suc d) (indexed form owner t)))
       (ne-eqb (suc d) 0 (λ e. omega arith))
-      ∙ any-append (isRoot i) (flatten (suc (suc d)) (indexed form (r .name) b)) (flatten (suc d) (indexed form owner t))
+      ∙ any-append (isRoot i) (preorder (suc (suc d)) (indexed form (r .name) b)) (preorder (suc d) (indexed form owner t))
       ∙ ap₂ (λ (x y : Bool). x || y) (deeper-not (suc d) (r .name) b) (deeper-not d owner t)
 
-  roots-have : (owner : Bytes) (f : Forest Row) → any (isRoot i) (flatten 0 (indexed form owner f)) ≡ any (elementNamed n) (heads f)
+  roots-have : (owner : Bytes) (f : Forest Row) → any (isRoot i) (preorder 0 (indexed form owner f)) ≡ any (elementNamed n) (heads f)
   roots-have owner bare = refl
   roots-have owner (tree r b t) =
       ap₂ (λ (u v : Bool). u || v) (element-test form once i h owner r)
-      (any-append (isRoot i) (flatten 1 (indexed form (r .name) b)) (flatten 0 (indexed form owner t)) ∙ ap₂ (λ (u v : Bool). u || v) (deeper-not 0 (r .name) b) (roots-have owner t))
+      (any-append (isRoot i) (preorder 1 (indexed form (r .name) b)) (preorder 0 (indexed form owner t)) ∙ ap₂ (λ (u v : Bool). u || v) (deeper-not 0 (r .name) b) (roots-have owner t))
 
 module _ (s : Store) (g : good s ≡ true) (i : ℕ) (h : i < length (s .form)) where
   once : Distinct (map definitionName (s .form))

@@ -9,7 +9,7 @@ use Rattle.rules.specs.declared.GroupKind.the-variants.{Sequence, Choice}
 use Rattle.rules.specs.Bytes.{Bytes}
 use Rattle.rules.specs.Model.{Members, done, el, group, names}
 use Rattle.rules.specs.Store.{Content, empty, pcdata, complex, Definition, Form, RowSort, element, attribute, text, Row, Forest, bare, tree, modelOf, members, heads}
-use Rattle.rules.specs.Preorder.{Deep, flatten}
+use Rattle.rules.specs.Preorder.{Deep, preorder}
 use Rattle.rules.specs.Layout.{FlatDefinition, FlatParticle, FlatRow, indexOf, attributeIndex, particles, contentParticles, flatDefinition, allParticles}
 use Rattle.rules.specs.Layout.{rowCode, rowIndex, indexed, quantifierCode, groupCode, kindCode, howMany}
 use Rattle.rules.specs.Conforming.{EveryRow, isElement}
@@ -32,19 +32,19 @@ module _ (form form′ : Form) (g : ℕ → ℕ) (Ok : Bytes → Type 0) (elemen
   moved-group d q i Sequence = refl
   moved-group d q i Choice = refl
 
-  moved-particles : (d : ℕ) (ms : Members Bytes) → ((n : Bytes) → List·Memᴰ n (names ms) → Ok n) → flatten d (particles form′ ms) ≡ map (movedParticle g) (flatten d (particles form ms))
+  moved-particles : (d : ℕ) (ms : Members Bytes) → ((n : Bytes) → List·Memᴰ n (names ms) → Ok n) → preorder d (particles form′ ms) ≡ map (movedParticle g) (preorder d (particles form ms))
   unfolding names
   moved-particles d done k = refl
   moved-particles d (el q n rest) k =
       ap₂ (λ (i : ℕ) (l : List (Deep FlatParticle)). record { depth = d; row = record { sort = 0; quantifier = quantifierCode q; index = i } } ∷ l)
       (elements n (k n (List·Memᴰ·head refl))) (moved-particles d rest (λ m j. k m (List·Memᴰ·tail j)))
-      ∙ ap (λ (x : Deep FlatParticle). x ∷ map (movedParticle g) (flatten d (particles form rest))) (sym (moved-element d (quantifierCode q) (indexOf n form)))
+      ∙ ap (λ (x : Deep FlatParticle). x ∷ map (movedParticle g) (preorder d (particles form rest))) (sym (moved-element d (quantifierCode q) (indexOf n form)))
   moved-particles d (group q c ms rest) k =
       ap₂ (λ (x y : List (Deep FlatParticle)). record { depth = d; row = record { sort = groupCode c; quantifier = quantifierCode q; index = howMany ms } } ∷ (x ++ y))
       (moved-particles (suc d) ms (λ m j. k m (Memᴰ·append-left (names rest) j)))
       (moved-particles d rest (λ m j. k m (Memᴰ·append-right (names ms) j)))
       ∙ ap₂ (λ (x : Deep FlatParticle) (l : List (Deep FlatParticle)). x ∷ l) (sym (moved-group d (quantifierCode q) (howMany ms) c))
-      (sym (map-append (movedParticle g) (flatten (suc d) (particles form ms)) (flatten d (particles form rest))))
+      (sym (map-append (movedParticle g) (preorder (suc d) (particles form ms)) (preorder d (particles form rest))))
 
   abbrev NamesOk : Definition → Type 0
   NamesOk d = (n : Bytes) → List·Memᴰ n (names (members d)) → Ok n
@@ -100,11 +100,11 @@ module _ (form form′ : Form) (g : ℕ → ℕ) (Ok : Bytes → Type 0) (elemen
         by attribute q = attributes owner (r .name) (a q)
         by text q = refl
 
-    pub moved-rows : (owner : Bytes) (d : ℕ) (f : Forest Row) → OkBelow owner (heads f) → EveryRow OkRow f → flatten d (indexed form′ owner f) ≡ map (movedRow g h) (flatten d (indexed form owner f))
+    pub moved-rows : (owner : Bytes) (d : ℕ) (f : Forest Row) → OkBelow owner (heads f) → EveryRow OkRow f → preorder d (indexed form′ owner f) ≡ map (movedRow g h) (preorder d (indexed form owner f))
     unfolding movedRow
     moved-rows owner d bare k e = refl
     moved-rows owner d (tree r b t) (k, l) (x, y, z) =
         ap₂ (λ (i : ℕ) (w : List (Deep FlatRow)). record { depth = d; row = record { sort = rowCode (r .sort); index = i; serial = r .serial; value = r .value } } ∷ w)
         (moved-index owner r (x .name) k)
         (ap₂ (λ (u v : List (Deep FlatRow)). u ++ v) (moved-rows (r .name) (suc d) b (below-ok r (heads b) x) y) (moved-rows owner d t l z)
-        ∙ sym (map-append (movedRow g h) (flatten (suc d) (indexed form (r .name) b)) (flatten d (indexed form owner t))))
+        ∙ sym (map-append (movedRow g h) (preorder (suc d) (indexed form (r .name) b)) (preorder d (indexed form owner t))))

@@ -11,7 +11,7 @@ use lib.Dec.{eqb}
 use lib.ListN.{length}
 use Rattle.rules.specs.Bytes.{Bytes, any, eqb-eq, eqb-of}
 use Rattle.rules.specs.Store.{Definition, RowSort, element, attribute, text, Row, Forest, heads, Form}
-use Rattle.rules.specs.Preorder.{Deep, flatten}
+use Rattle.rules.specs.Preorder.{Deep, preorder}
 use Rattle.rules.specs.Layout.{rowSize, FlatRow, rowCode, rowIndex, indexed, indexOf}
 use Rattle.rules.specs.Decode.{readRow, rowCount}
 use Rattle.rules.specs.WellFormed.{lookup, isThere}
@@ -121,7 +121,7 @@ module _ (bs : Bytes) (w : Whole bs) where
         by (inr h) = absurd (nil≢cons (sym (from-none readRow (rowSize (widthOf bs)) (treeRowsIn bs) (rowCount bs) i h) ∙ b .from ∙ l .rows))
 
     located-step : rowAt (widthOf bs) (treeRowsIn bs) i ∷ rowsFrom (widthOf bs) (treeRowsIn bs) (rowCount bs) (i + 1)
-        ≡ record { depth = l .depth; row = rowWritten (formIn bs) (l .owner) (l .row) } ∷ (flatten (suc (l .depth)) (indexed (formIn bs) (l .row .name) (l .below)) ++ l .rest)
+        ≡ record { depth = l .depth; row = rowWritten (formIn bs) (l .owner) (l .row) } ∷ (preorder (suc (l .depth)) (indexed (formIn bs) (l .row .name) (l .below)) ++ l .rest)
     located-step = sym (from-step readRow (rowSize (widthOf bs)) (treeRowsIn bs) (rowCount bs) i located-below) ∙ b .from ∙ l .rows
 
     pub located-here : rowAt (widthOf bs) (treeRowsIn bs) i ≡ record { depth = l .depth; row = rowWritten (formIn bs) (l .owner) (l .row) }
@@ -163,7 +163,7 @@ module _ (bs : Bytes) (w : Whole bs) where
     sought : Sought (seek p (rowsFrom (widthOf bs) (treeRowsIn bs) (rowCount bs) 0))
     unfolding seek
     sought =
-        subst (λ (zs : List (Deep FlatRow)). Sought (seek p zs)) (append-nil (flatten 0 (indexed (formIn bs) [] (docsIn bs))) ∙ sym (w .rows))
+        subst (λ (zs : List (Deep FlatRow)). Sought (seek p zs)) (append-nil (preorder 0 (indexed (formIn bs) [] (docsIn bs))) ∙ sym (w .rows))
         (seek-tree (formIn bs) p q same 0 [] (docsIn bs) [] tt)
 
     module _ (i : ℕ) (b : Begins (widthOf bs) (treeRowsIn bs) (rowCount bs) i (seek p (rowsFrom (widthOf bs) (treeRowsIn bs) (rowCount bs) 0))) where

@@ -18,7 +18,7 @@ use Rattle.rules.specs.WellFormed.{lookup, isThere, known}
 use Rattle.rules.specs.Conforming.{nameOf, ElementRows, RowConforms, conforming}
 use Rattle.rules.specs.Lines.{isElementRow, isTextRow, elementWith, childrenOf, serialAt}
 use Rattle.rules.specs.Change.{addDocument, addElement, destroyElement, nameAtIndex, after}
-use Rattle.rules.specs.Refusal.{Condition, _if_, first, conditions, past, rowsOf, noElement, badText, isComplex}
+use Rattle.rules.specs.Refusal.{Condition, _if_, first, conditions, pastEnd, rowsOf, noElement, badText, isComplex}
 use Rattle.change_laws.proofs.RowEdits.{rowSerial, keep}
 use Rattle.change_laws.proofs.Conditions.{not-past}
 use Rattle.change_laws.proofs.StandingLaws.{standing-child, standing-every, no-zero, children-are}
@@ -161,7 +161,7 @@ module _ (bs : Bytes) (w : Whole bs) where
 
     pub add-early : {x : ℕ} → x ≡ first (conditions (addDocument n t) (storeIn bs)) → (x ≡ 0 → ⊥) → Gives x (conditions (addElement k j n t) (storeIn bs))
     unfolding conditions
-    add-early {x} e f = held (badText (storeIn bs) t) (past n (formIn bs)) x _ e f
+    add-early {x} e f = held (badText (storeIn bs) t) (pastEnd n (formIn bs)) x _ e f
 
     unmet : (a b : Bool) (x : ℕ) → x ≡ first ((3 if a) ∷ (6 if b) ∷ []) → x ≡ 0 → (a ≡ false) × (b ≡ false)
     unmet true b x e h = absurd (omega arith)
@@ -169,9 +169,9 @@ module _ (bs : Bytes) (w : Whole bs) where
     unmet false false x e h = (refl, refl)
 
     module _ {x : ℕ} (e : x ≡ first (conditions (addDocument n t) (storeIn bs))) (h : x ≡ 0) where
-      early : (badText (storeIn bs) t ≡ false) × (past n (formIn bs) ≡ false)
+      early : (badText (storeIn bs) t ≡ false) × (pastEnd n (formIn bs) ≡ false)
       unfolding conditions
-      early = unmet (badText (storeIn bs) t) (past n (formIn bs)) x e h
+      early = unmet (badText (storeIn bs) t) (pastEnd n (formIn bs)) x e h
 
       pub definition-small : n < 65536
       definition-small = let l : n < length (formIn bs) = not-past n (formIn bs) (early .1) in omega (arith, w .agrees .size, w .fewDefinitions)

@@ -9,7 +9,7 @@ use mathlib.Core.List.{List, [], _∷_, _++_, map, append-assoc}
 use lib.Dec.{eqb}
 use Rattle.rules.specs.Bytes.{Bytes, eqb-of}
 use Rattle.rules.specs.Store.{Form, Row, Forest, bare, tree, heads}
-use Rattle.rules.specs.Preorder.{Deep, flatten}
+use Rattle.rules.specs.Preorder.{Deep, preorder}
 use Rattle.rules.specs.Layout.{FlatRow, rowCode, indexed}
 use Rattle.change_laws.proofs.RowEdits.{keep}
 use Rattle.change_laws.proofs.Rowwise.{Standing}
@@ -48,7 +48,7 @@ children-ends s d (x ∷ xs) e = children-less s d x xs e
 -- ---- a forest
 module _ (form : Form) where
   abbrev written : ℕ → Bytes → Forest Row → List (Deep FlatRow)
-  written d owner f = flatten d (indexed form owner f)
+  written d owner f = preorder d (indexed form owner f)
 
   children-deeper : (s d e : ℕ) (owner : Bytes) (f : Forest Row) (more : List (Deep FlatRow)) → d < e → children s d (written e owner f ++ more) ≡ children s d more
   children-deeper s d e owner bare more l = refl
@@ -98,12 +98,12 @@ module _ (form : Form) where
     pub depth : ℕ
     pub rest : List (Deep FlatRow)
     pub stands : Standing f row below
-    pub rows : xs ≡ record { depth = depth; row = rowWritten form owner row } ∷ (flatten (suc depth) (indexed form (row .name) below) ++ rest)
+    pub rows : xs ≡ record { depth = depth; row = rowWritten form owner row } ∷ (preorder (suc depth) (indexed form (row .name) below) ++ rest)
     pub ends : Ends (suc depth) rest
 
   -- its children of a sort
   pub located-children : {f : Forest Row} {xs : List (Deep FlatRow)} (l : Located f xs) (s : ℕ)
-      → children s (suc (l .depth)) (flatten (suc (l .depth)) (indexed form (l .row .name) (l .below)) ++ l .rest)
+      → children s (suc (l .depth)) (preorder (suc (l .depth)) (indexed form (l .row .name) (l .below)) ++ l .rest)
       ≡ map (rowWritten form (l .row .name)) (keep (ofSort s) (heads (l .below)))
   located-children l s = children-tree s (suc (l .depth)) (l .row .name) (l .below) (l .rest) (l .ends)
 

@@ -12,7 +12,7 @@ use Rattle.rules.specs.Store.{Form}
 use Rattle.rules.specs.Lines.{Line}
 use Rattle.rules.specs.Passing.{passes}
 use Rattle.rules.specs.Change.{flattenGroup, editModel, keeping, plan, formAfter}
-use Rattle.rules.specs.Refusal.{past, foundAt, noGroupAt, onGroup, first, conditions}
+use Rattle.rules.specs.Refusal.{pastEnd, foundAt, noGroupAt, onGroup, first, conditions}
 use Rattle.change_laws.proofs.EditConditions.{group-some}
 use Rattle.change_laws.proofs.Conditions.{none-holds}
 use Rattle.model_writer.specs.PartAfter.{suits}
@@ -39,6 +39,6 @@ module _ (bs : Bytes) (q : passes bs ≡ true) (o : ℕ) (p : List ℕ) where
   unfolding conditions
   flatten-fits e = let (index, (place, more)) = none-holds (flattenGroup o p) (storeIn bs) e in by (foundAt ungroup o p (storeIn bs)) refl index place
     where
-      by : (f : Option (Spot Bytes)) → foundAt ungroup o p (storeIn bs) ≡ f → past o (storeIn bs .form) ≡ false → noGroupAt f ≡ false → Fits bs o p ungroup
+      by : (f : Option (Spot Bytes)) → foundAt ungroup o p (storeIn bs) ≡ f → pastEnd o (storeIn bs .form) ≡ false → noGroupAt f ≡ false → Fits bs o p ungroup
       by none at i h = absurd (false≢true (sym h))
       by (some f) at i h = fits-at bs q o p ungroup f (found-flatten o p bs) i at (group-some (f .picked) h) (suits-group (f .picked) h)

@@ -8,7 +8,7 @@ use Rattle.rules.specs.Bytes.{Bytes}
 use Rattle.rules.specs.Model.{Members}
 use Rattle.rules.specs.Language.{Conforms}
 use Rattle.rules.specs.Store.{Forest, bare, tree, heads}
-use Rattle.rules.specs.Preorder.{Deep, flatten}
+use Rattle.rules.specs.Preorder.{Deep, preorder}
 use Rattle.rules.specs.Layout.{FlatRow}
 
 -- Definitions by index: how many, their kinds (0 EMPTY, 1 PCDATA, 2 COMPLEX) and models. Attributes by index: how many,
@@ -65,6 +65,6 @@ Everywhere f (tree r b t) = Under f r (heads b) × Everywhere f b × Everywhere 
 -- rows with depths that are those of documents that conform
 pub record Documents (f : IndexForm) (xs : List (Deep FlatRow)) : Type 0 where
   pub docs : Forest FlatRow
-  pub rows : flatten 0 docs ≡ xs
+  pub rows : preorder 0 docs ≡ xs
   pub roots : Sort 1 (heads docs)
   pub everywhere : Everywhere f docs

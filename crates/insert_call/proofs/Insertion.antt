@@ -17,7 +17,7 @@ use Rattle.rules.specs.Decode.{quantifierOf}
 use Rattle.rules.specs.WellFormed.{isValue}
 use Rattle.rules.specs.Passing.{passes}
 use Rattle.rules.specs.Change.{insertElement, definitionAt, nameAtIndex, formAfter}
-use Rattle.rules.specs.Refusal.{past, foundAt, noPlace, isComplex, first, conditions}
+use Rattle.rules.specs.Refusal.{pastEnd, foundAt, noPlace, isComplex, first, conditions}
 use Rattle.rules.specs.Outcome.{outcome, Answers}
 use Rattle.rules.proofs.Words.{or-split}
 use Rattle.change_laws.proofs.Conditions.{not-past, none-holds}
@@ -54,9 +54,9 @@ insert-fits : (bs : Bytes) → passes bs ≡ true → (o : ℕ) (p : List ℕ) (
 unfolding conditions
 insert-fits bs q o p i k t e =
     let (text, (code, (index, (place, (kind, more))))) = none-holds (insertElement o p i k t) (storeIn bs) e in
-    by (foundAt (insert (quantifierOf k) (nameAtIndex i (storeIn bs .form))) o p (storeIn bs)) refl (or-split (past o (storeIn bs .form)) (past i (storeIn bs .form)) index .0) place kind
+    by (foundAt (insert (quantifierOf k) (nameAtIndex i (storeIn bs .form))) o p (storeIn bs)) refl (or-split (pastEnd o (storeIn bs .form)) (pastEnd i (storeIn bs .form)) index .0) place kind
   where
-    by : (f : Option (Spot Bytes)) → foundAt (insert (quantifierOf k) (nameAtIndex i (storeIn bs .form))) o p (storeIn bs) ≡ f → past o (storeIn bs .form) ≡ false → noPlace f ≡ false
+    by : (f : Option (Spot Bytes)) → foundAt (insert (quantifierOf k) (nameAtIndex i (storeIn bs .form))) o p (storeIn bs) ≡ f → pastEnd o (storeIn bs .form) ≡ false → noPlace f ≡ false
         → not (isComplex (definitionAt o (storeIn bs .form) .content)) ≡ false → Fits bs o p (insert (quantifierOf k) (nameAtIndex i (storeIn bs .form)))
     by none at l h c = absurd (false≢true (sym h))
     by (some f) at l h c =
@@ -87,7 +87,7 @@ insertion bs q o p i k t e =
       fits = insert-fits bs q o p i k t e;
       text = value-given bs t text;
       code = ltb-false 3 k code;
-      known = not-past i (storeIn bs .form) (or-split (past o (storeIn bs .form)) (past i (storeIn bs .form)) index .1);
+      known = not-past i (storeIn bs .form) (or-split (pastEnd o (storeIn bs .form)) (pastEnd i (storeIn bs .form)) index .1);
       none = e;
     }
 

@@ -20,7 +20,7 @@ use Rattle.rules.specs.Decode.{quantifierOf, readRow, readMany, definitionCount
 use Rattle.rules.specs.WellFormed.{isValue}
 use Rattle.rules.specs.Passing.{passes}
 use Rattle.rules.specs.Change.{insertElement, definitionAt, nameAtIndex}
-use Rattle.rules.specs.Refusal.{Condition, _if_, first, conditions, past, foundAt, atPlace, noPlace, isComplex, instanceExists}
+use Rattle.rules.specs.Refusal.{Condition, _if_, first, conditions, pastEnd, foundAt, atPlace, noPlace, isComplex, instanceExists}
 use Rattle.rules.proofs.Words.{test-is}
 use Rattle.rules.proofs.BooleanLaws.{none-long}
 use Rattle.layout.specs.Bodies.{widthOf, WidthIn, Number, definitionsIn, treeRowsIn}
@@ -168,7 +168,7 @@ module _ (bs : Bytes) (w : Reads bs) (o : ℕ) (place : List ℕ) (i q : ℕ) (t
     insert-4 l = gives-next (fine-text bs t v e3 f3) (gives-hit (lt-ltb 3 q l))
 
     module _ (l : q ≤ 3) {m : ℕ} (e : Number (definitionCount bs) m) where
-      unknown : {a b c : Bool} → past o (formIn bs) ≡ a → past i (formIn bs) ≡ b → (a || b) ≡ c → (past o (formIn bs) || past i (formIn bs)) ≡ c
+      unknown : {a b c : Bool} → pastEnd o (formIn bs) ≡ a → pastEnd i (formIn bs) ≡ b → (a || b) ≡ c → (pastEnd o (formIn bs) || pastEnd i (formIn bs)) ≡ c
       unknown x y z = ap₂ (λ (u v : Bool). u || v) x y ∙ z
 
       pub insert-6 : m ≤ o → Given 6

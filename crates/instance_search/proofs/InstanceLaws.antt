@@ -8,7 +8,7 @@ use lib.ListN.{length}
 use Rattle.rules.specs.Bytes.{Bytes, any}
 use Rattle.rules.specs.Model.{Distinct}
 use Rattle.rules.specs.Store.{Form, Row, Forest, bare, tree}
-use Rattle.rules.specs.Preorder.{flatten}
+use Rattle.rules.specs.Preorder.{preorder}
 use Rattle.rules.specs.Layout.{rowSize, indexed}
 use Rattle.rules.specs.Decode.{readRow, readMany, rowCount}
 use Rattle.rules.specs.WellFormed.{definitionName}
@@ -28,11 +28,11 @@ module _ (form : Form) (once : Distinct (map definitionName form)) (i : ℕ) (h 
   n = nameAtIndex i form
 
   rows-have : (d : ℕ) (owner : Bytes) (up : ℕ) (f : Forest Row)
-      → any (instanceRow i) (flatten d (indexed form owner f)) ≡ any (λ (l : Line). elementNamed n (l .row)) (lines up f)
+      → any (instanceRow i) (preorder d (indexed form owner f)) ≡ any (λ (l : Line). elementNamed n (l .row)) (lines up f)
   rows-have d owner up bare = refl
   rows-have d owner up (tree r b t) =
       ap₂ (λ (u v : Bool). u || v) (element-test form once i h owner r)
-      (any-append (instanceRow i) (flatten (suc d) (indexed form (r .name) b)) (flatten d (indexed form owner t))
+      (any-append (instanceRow i) (preorder (suc d) (indexed form (r .name) b)) (preorder d (indexed form owner t))
       ∙ ap₂ (λ (u v : Bool). u || v) (rows-have (suc d) (r .name) (r .serial) b) (rows-have d owner up t)
       ∙ sym (any-append (λ (l : Line). elementNamed n (l .row)) (lines (r .serial) b) (lines up t)))
 

@@ -14,7 +14,7 @@ use Rattle.rules.specs.declared.GroupKind.the-variants.{Sequence, Choice}
 use Rattle.rules.specs.Bytes.{Bytes, numbers}
 use Rattle.rules.specs.Model.{Members, done, el, group, Equality, skips, both, nothing}
 use Rattle.rules.specs.Decode.{readParticle}
-use Rattle.rules.specs.Automaton.{single, empty, join, quantify, facts, continues, accepts}
+use Rattle.rules.specs.Automaton.{single, empty, join, quantifyFacts, facts, continues, accepts}
 use Rattle.rules.specs.Layout.{particleSize}
 use Rattle.codec.proofs.Writers.{tail-seen}
 use Rattle.model.specs.declared.What.the-variants.{Element, Group}
@@ -90,12 +90,12 @@ join-assoc Choice f g h =
 
 -- ---- one particle
 module _ (d x y : ℕ) (s : Bytes) (p : Particle) (ep : p ≡ particleOf (readParticle s)) where
-  pub first-element : (i : ℕ) (r : Facts) → p .what ≡ Element i → r ≡ quantify (p .quantifier) (single numbers i x y) → r ≡ firstFacts d s x y
+  pub first-element : (i : ℕ) (r : Facts) → p .what ≡ Element i → r ≡ quantifyFacts (p .quantifier) (single numbers i x y) → r ≡ firstFacts d s x y
   unfolding firstFacts
   first-element i r w e = rw (← ep, w) e
 
   pub first-group : (j : GroupKind) (n : ℕ) (below r : Facts) → p .what ≡ Group j n → below ≡ facts numbers j (membersFrom (d + 1) (take (length s - particleSize) (drop particleSize s))) x y
-      → r ≡ quantify (p .quantifier) below → r ≡ firstFacts d s x y
+      → r ≡ quantifyFacts (p .quantifier) below → r ≡ firstFacts d s x y
   unfolding firstFacts
   first-group j n below r w eb e =
       let u : below ≡ facts numbers j (membersFrom (suc d) (drop particleSize s)) x y = eb ∙ rw (tail-seen s particleSize, add-one d) in
@@ -165,7 +165,7 @@ facts-nothing E Sequence done x y = refl
 facts-nothing E Choice done x y = refl
 facts-nothing E k (el q n rest) x y = by k q (facts-nothing E k rest x y)
   where
-    by : (k : GroupKind) (q : Quantifier) → facts E k rest x y .nothing ≡ nothing k rest → join k (quantify q (single E n x y)) (facts E k rest x y) .nothing ≡ both k (skips q) (nothing k rest)
+    by : (k : GroupKind) (q : Quantifier) → facts E k rest x y .nothing ≡ nothing k rest → join k (quantifyFacts q (single E n x y)) (facts E k rest x y) .nothing ≡ both k (skips q) (nothing k rest)
     by Sequence None e = refl
     by Sequence Qmark e = e
     by Sequence Star e = e
@@ -177,7 +177,7 @@ facts-nothing E k (el q n rest) x y = by k q (facts-nothing E k rest x y)
 facts-nothing E k (group q j ms rest) x y = by k q (facts-nothing E j ms x y) (facts-nothing E k rest x y)
   where
     by : (k : GroupKind) (q : Quantifier) → facts E j ms x y .nothing ≡ nothing j ms → facts E k rest x y .nothing ≡ nothing k rest
-        → join k (quantify q (facts E j ms x y)) (facts E k rest x y) .nothing ≡ both k (skips q || nothing j ms) (nothing k rest)
+        → join k (quantifyFacts q (facts E j ms x y)) (facts E k rest x y) .nothing ≡ both k (skips q || nothing j ms) (nothing k rest)
     by Sequence None f e = ap₂ (λ (i j : Bool). i && j) f e
     by Sequence Qmark f e = e
     by Sequence Star f e = e

@@ -14,7 +14,7 @@ use Rattle.rules.specs.declared.GroupKind.the-variants.{Sequence, Choice}
 use Rattle.rules.specs.Bytes.{Bytes}
 use Rattle.rules.specs.Model.{Members, done, el, group, rename}
 use Rattle.rules.specs.Store.{Form}
-use Rattle.rules.specs.Preorder.{Deep, flatten}
+use Rattle.rules.specs.Preorder.{Deep, preorder}
 use Rattle.rules.specs.Layout.{FlatParticle, groupCode, howMany, indexOf, particles}
 use Rattle.rules.specs.Place.{Found as Spot, Context, here, past, over, into, plug, plain, within, afterMembers, inGroup as inside, right, present, gap, find}
 use Rattle.model.specs.declared.What.the-variants.{Group}
@@ -42,7 +42,7 @@ many-named f (el q i rest) = ap suc (many-named f rest)
 many-named f (group q k ms rest) = ap suc (many-named f rest)
 
 -- those that the layout writes, each name as its index
-pub spread-named : (form : Form) (d : ℕ) (ms : Members Bytes) → flatten d (particles form ms) ≡ spread d (rename (λ n. indexOf n form) ms)
+pub spread-named : (form : Form) (d : ℕ) (ms : Members Bytes) → preorder d (particles form ms) ≡ spread d (rename (λ n. indexOf n form) ms)
 unfolding rename
 spread-named form d done = refl
 spread-named form d (el q i rest) = ap (λ (l : Particles). elementParticle d q (indexOf i form) ∷ l) (spread-named form d rest)

@@ -11,10 +11,10 @@ use Rattle.rules.specs.declared.GroupKind.{GroupKind}
 use Rattle.rules.specs.declared.GroupKind.the-variants.{Sequence, Choice}
 use Rattle.rules.specs.Model.{Members, done, el, group}
 use Rattle.rules.specs.Store.{Forest, bare, tree}
-use Rattle.rules.specs.Preorder.{flatten, build}
+use Rattle.rules.specs.Preorder.{preorder, build}
 use Rattle.rules.specs.Layout.{FlatParticle, particleBytes, each, groupCode, howMany}
 use Rattle.rules.specs.Place.{find}
-use Rattle.rules.proofs.PreorderLaws.{build-flatten}
+use Rattle.rules.proofs.PreorderLaws.{build-preorder}
 use Rattle.model.specs.declared.place.Found.{Found}
 use Rattle.model.specs.declared.place.Found.the-variants.{Absent}
 use Rattle.model.specs.Members.{indexMember, indexMembers, particlesOf, membersFrom, allMembers}
@@ -33,12 +33,12 @@ forest done = bare
 forest (el q i rest) = tree (elementParticle 0 q i .row) bare (forest rest)
 forest (group q k ms rest) = tree (groupParticle 0 q k (howMany ms) .row) (forest ms) (forest rest)
 
-flatten-forest : (d : ℕ) (ms : Members ℕ) → flatten d (forest ms) ≡ spread d ms
+preorder-forest : (d : ℕ) (ms : Members ℕ) → preorder d (forest ms) ≡ spread d ms
 unfolding forest
-flatten-forest d done = refl
-flatten-forest d (el q i rest) = ap (λ (l : Particles). elementParticle d q i ∷ l) (flatten-forest d rest)
-flatten-forest d (group q k ms rest) =
-    ap (λ (l : Particles). groupParticle d q k (howMany ms) ∷ l) (ap₂ (λ (u v : Particles). u ++ v) (flatten-forest (suc d) ms) (flatten-forest d rest))
+preorder-forest d done = refl
+preorder-forest d (el q i rest) = ap (λ (l : Particles). elementParticle d q i ∷ l) (preorder-forest d rest)
+preorder-forest d (group q k ms rest) =
+    ap (λ (l : Particles). groupParticle d q k (howMany ms) ∷ l) (ap₂ (λ (u v : Particles). u ++ v) (preorder-forest (suc d) ms) (preorder-forest d rest))
 
 index-forest : (ms : Members ℕ) → indexMembers (forest ms) ≡ ms
 unfolding forest
@@ -54,7 +54,7 @@ index-forest (group q k ms rest) = by k (index-forest ms) (index-forest rest)
 pub members-written : (ms : Members ℕ) → allMembers (each particleBytes (spread 0 ms)) ≡ ms
 unfolding membersFrom
 members-written ms =
-    ap (λ (l : Particles). indexMembers (build l 0)) (particles-written (spread 0 ms) ∙ sym (flatten-forest 0 ms)) ∙ ap indexMembers (build-flatten (forest ms)) ∙ index-forest ms
+    ap (λ (l : Particles). indexMembers (build l 0)) (particles-written (spread 0 ms) ∙ sym (preorder-forest 0 ms)) ∙ ap indexMembers (build-preorder (forest ms)) ∙ index-forest ms
 
 -- WHERE THE CODE FINDS A PLACE in a model that the layout wrote
 pub place-written : (insert : Bool) (place : List ℕ) (ms : Members ℕ)

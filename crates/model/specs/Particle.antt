@@ -8,7 +8,7 @@ use Rattle.rules.specs.Bytes.{Bytes, numbers}
 use Rattle.rules.specs.Preorder.{Deep}
 use Rattle.rules.specs.Layout.{FlatParticle, particleSize}
 use Rattle.rules.specs.Decode.{quantifierOf, groupOf, readParticle}
-use Rattle.rules.specs.Automaton.{single, quantify, facts}
+use Rattle.rules.specs.Automaton.{single, quantifyFacts, facts}
 use Rattle.model.specs.declared.What.{What}
 use Rattle.model.specs.declared.What.the-variants.{Element, Group}
 use Rattle.model.specs.declared.Particle.{Particle}
@@ -33,7 +33,7 @@ onceFacts (Element i) below x y = single numbers i x y
 onceFacts (Group k n) below x y = below
 
 abbrev pub particleFacts : Particle → Facts → ℕ → ℕ → Facts
-particleFacts p below x y = quantify (p .quantifier) (onceFacts (p .what) below x y)
+particleFacts p below x y = quantifyFacts (p .quantifier) (onceFacts (p .what) below x y)
 
 -- those of the particle of depth d that s begins with
 unfoldable pub firstFacts : ℕ → Bytes → ℕ → ℕ → Facts

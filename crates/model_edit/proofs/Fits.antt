@@ -17,7 +17,7 @@ use Rattle.rules.specs.Layout.{particleSize, FlatParticle, FlatStore, flat}
 use Rattle.rules.specs.Decode.{readParticle, definitionCount}
 use Rattle.rules.specs.Passing.{passes}
 use Rattle.rules.specs.Change.{Call, definitionAt, editModel, formAfter, after}
-use Rattle.rules.specs.Refusal.{past, first, conditions}
+use Rattle.rules.specs.Refusal.{pastEnd, first, conditions}
 use Rattle.rules.specs.Outcome.{outcome, Answers}
 use Rattle.change_laws.proofs.Conditions.{not-past}
 use Rattle.change_laws.proofs.EditConditions.{complex-content, picked-complex}
@@ -97,7 +97,7 @@ place-low {bs} v = omega (arith, v .inside, v .own, encoded bs (v .good) .partic
 
 -- ---- where no condition holds
 module _ (bs : Bytes) (q : passes bs ≡ true) (o : ℕ) (p : List ℕ) where
-  pub inside : past o (storeIn bs .form) ≡ false → o < definitionCount bs
+  pub inside : pastEnd o (storeIn bs .form) ≡ false → o < definitionCount bs
   inside e = omega (arith, not-past o (storeIn bs .form) e, form-size bs q)
 
   pub some-content : (e : Edit Bytes) (f : Spot Bytes) → placed e p (modelIn bs o) ≡ some f → isDone (f .picked) ≡ false
@@ -107,7 +107,7 @@ module _ (bs : Bytes) (q : passes bs ≡ true) (o : ℕ) (p : List ℕ) where
       (picked-complex (definitionAt o (storeIn bs .form) .content) (f .context) (f .picked) (place-right e p (modelIn bs o) f at) d)
 
   -- a member is found there, where the edit suits it
-  abbrev pub fits-at : (e : Edit Bytes) (f : Spot Bytes) → placed e p (modelIn bs o) ≡ foundBy (inserts e) p (modelIn bs o) → past o (storeIn bs .form) ≡ false
+  abbrev pub fits-at : (e : Edit Bytes) (f : Spot Bytes) → placed e p (modelIn bs o) ≡ foundBy (inserts e) p (modelIn bs o) → pastEnd o (storeIn bs .form) ≡ false
       → placed e p (modelIn bs o) ≡ some f → isDone (f .picked) ≡ false → suits e (f .picked) ≡ true → Fits bs o p e
   fits-at e f same i at d s = record { good = q; there = inside i; found = f; content = some-content e f at d; at = at; by = sym same ∙ at; suits = s }
 

@@ -5,7 +5,7 @@ use mathlib.Core.Path.{_≡_, refl, sym, ap, _∙_, subst}
 use mathlib.Core.List.{List, []}
 use Rattle.rules.specs.Bytes.{Bytes}
 use Rattle.rules.specs.Edit.{Edit}
-use Rattle.rules.specs.Preorder.{flatten}
+use Rattle.rules.specs.Preorder.{preorder}
 use Rattle.rules.specs.Layout.{flat, indexed}
 use Rattle.rules.specs.Lines.{lines}
 use Rattle.rules.specs.Change.{Call, editAt, editModel, keeping, plan, formAfter, docsAfter, after}
@@ -40,7 +40,7 @@ module _ {bs : Bytes} {o : ℕ} {p : List ℕ} {e : Edit Bytes} (x : Fits bs o p
       let rows = indexed (storeIn bs .form) [] (storeIn bs .docs) in
       flat-planned-in c (storeIn bs) (settingPlan 0) [] (formEdited bs o (editOf E) h n) (bodies-hold x E same y c w) (apart (none-apart _ rows (none-of _ (λ r. refl) rows)))
       (set-value-does (storeIn bs) (holds bs (x .good) .good) 0 [] c k
-      ∙ sym (ap (λ z. flatten 0 (indexed z [] (docsAfter c (storeIn bs)))) w ∙ ap (flatten 0) (rows-kept (editAt e p) o (storeIn bs .form) [] (docsAfter c (storeIn bs)))))
+      ∙ sym (ap (λ z. preorder 0 (indexed z [] (docsAfter c (storeIn bs)))) w ∙ ap (preorder 0) (rows-kept (editAt e p) o (storeIn bs .form) [] (docsAfter c (storeIn bs)))))
 
   pub kept-answers : (c : Call) (room : ℕ) {q : Plan} (m : ℕ) → q ≡ settingPlan 0 → m ≡ first (conditions c (storeIn bs)) → m ≡ 0
       → formAfter c (storeIn bs .form) ≡ editModel o p e (storeIn bs .form) → plan c (storeIn bs .version) (storeIn bs .form) (lines 0 (storeIn bs .docs)) ≡ keeping

@@ -12,7 +12,7 @@ use Rattle.rules.specs.Model.{Members, done, el, group, rename}
 use Rattle.rules.specs.Place.{Found as Spot, Context, plug, renameAround}
 use Rattle.rules.specs.Edit.{Edit, insert, remove, quantify, convert, flatten as ungroup, placeOf as placed}
 use Rattle.rules.specs.Store.{complex, Form, Store, members}
-use Rattle.rules.specs.Preorder.{flatten}
+use Rattle.rules.specs.Preorder.{preorder}
 use Rattle.rules.specs.Layout.{FlatStore, indexOf, particleBytes, each, particles, contentParticles, flatDefinition, allParticles, flat, particleSize}
 use Rattle.rules.specs.Change.{definitionAt, editModel}
 use Rattle.rules.proofs.BooleanLaws.{Every, every-left, every-right}
@@ -37,7 +37,7 @@ use Rattle.model_writer.proofs.HeadWriting.{each-take, each-drop, lengt
 
 -- ---- where a definition's particles stand
 own-part : (form : Form) (o : ℕ) (ds : Form) (ms : Members Bytes) → o < length ds → definitionAt o ds .content ≡ complex ms
-    → take (countOf o (map (flatDefinition form) ds)) (drop (startOf o (map (flatDefinition form) ds)) (allParticles form ds)) ≡ flatten 0 (particles form ms)
+    → take (countOf o (map (flatDefinition form) ds)) (drop (startOf o (map (flatDefinition form) ds)) (allParticles form ds)) ≡ preorder 0 (particles form ms)
 own-part form o [] ms l e = absurd (omega arith)
 own-part form zero (d ∷ ds) ms l e = take-append-seam (contentParticles form (d .content)) (allParticles form ds) ∙ ap (contentParticles form) e
 own-part form (suc o) (d ∷ ds) ms l e =

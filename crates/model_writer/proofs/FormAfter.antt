@@ -12,7 +12,7 @@ use Rattle.rules.specs.Model.{Members, done, el, group, rename}
 use Rattle.rules.specs.Place.{Found}
 use Rattle.rules.specs.Edit.{Edit, placeOf, modelAfter}
 use Rattle.rules.specs.Store.{Content, empty, pcdata, complex, Form, RowSort, element, attribute, text, Row, Forest, bare, tree, Store, members}
-use Rattle.rules.specs.Preorder.{flatten}
+use Rattle.rules.specs.Preorder.{preorder}
 use Rattle.rules.specs.Layout.{FlatDefinition, FlatAttribute, indexOf, indexIn, attributeIndex, howMany, particles, contentParticles, flatDefinition}
 use Rattle.rules.specs.Layout.{allParticles, ownAttributes, allAttributes, indexed, flat, quantifierCode, groupCode, kindCode, rowCode}
 use Rattle.rules.specs.Change.{definitionAt, update, inContent, inModel, editFound, editAt, editModel}
@@ -47,7 +47,7 @@ module _ (form more : Form) (alike : (n : Bytes) → indexOf n form ≡ indexOf 
   content-alike : (c : Content) → contentParticles form c ≡ contentParticles more c
   content-alike empty = refl
   content-alike pcdata = refl
-  content-alike (complex ms) = ap (flatten 0) (particles-alike ms)
+  content-alike (complex ms) = ap (preorder 0) (particles-alike ms)
 
   pub all-alike : (ds : Form) → allParticles form ds ≡ allParticles more ds
   all-alike [] = refl
@@ -77,7 +77,7 @@ rows-kept u o form owner f = rows-alike (update o (inModel u) form) form (index-
 -- ---- one model changed: the particles of the others stay
 module _ (form : Form) (u : Members Bytes → Members Bytes) where
   abbrev part : Members Bytes → Particles
-  part ms = flatten 0 (particles form ms)
+  part ms = preorder 0 (particles form ms)
 
   definitions-counted : (o : ℕ) (ds : Form) (ms : Members Bytes) → definitionAt o ds .content ≡ complex ms
       → map (flatDefinition form) (update o (inModel u) ds) ≡ counted o (length (part (u ms))) (map (flatDefinition form) ds)
@@ -121,7 +121,7 @@ form-after s o p e f l c at =
     let ms : Members Bytes = members (definitionAt o form) in
     let named : Particles = spread 0 (rename (λ n. indexOf n form) (modelAfter e f)) in
     let alike : (n : Bytes) → indexOf n new ≡ indexOf n form = index-kept (inModel (editAt e p)) (λ d. refl) o form in
-    let become : flatten 0 (particles form (editAt e p ms)) ≡ named = ap (λ (x : Option (Found Bytes)). flatten 0 (particles form (editFound e ms x))) at ∙ spread-named form 0 (modelAfter e f) in
+    let become : preorder 0 (particles form (editAt e p ms)) ≡ named = ap (λ (x : Option (Found Bytes)). preorder 0 (particles form (editFound e ms x))) at ∙ spread-named form 0 (modelAfter e f) in
     let ds : map (flatDefinition new) new ≡ counted o (length named) (map (flatDefinition form) form) =
     definitions-alike new form alike new ∙ definitions-counted form (editAt e p) o form ms c ∙ ap (λ (x : Particles). counted o (length x) (map (flatDefinition form) form)) become in
     let ps : allParticles new new ≡ spliced (startOf o (map (flatDefinition form) form)) (countOf o (map (flatDefinition form) form)) named (allParticles form form) =
@@ -134,5 +134,5 @@ form-after s o p e f l c at =
       definitions = ds i;
       particles = ps i;
       attributes = attributes-kept (editAt e p) o form 0 i;
-      rows = flatten 0 (rows-kept (editAt e p) o form [] (s .docs) i);
+      rows = preorder 0 (rows-kept (editAt e p) o form [] (s .docs) i);
     }

@@ -16,7 +16,7 @@ use Rattle.rules.specs.declared.GroupKind.{GroupKind}
 use Rattle.rules.specs.declared.GroupKind.the-variants.{Sequence, Choice}
 use Rattle.rules.specs.Bytes.{numbers}
 use Rattle.rules.specs.Model.{Members, done, el, group}
-use Rattle.rules.specs.Automaton.{single, join, quantify, facts}
+use Rattle.rules.specs.Automaton.{single, join, quantifyFacts, facts}
 use Rattle.sets.specs.Sets.{has, bit, union, wholeIf}
 use Rattle.sets.proofs.Laws.{has-none, has-first, has-bit, has-union, has-given}
 use Rattle.model.specs.Steps.{steps, finishes}
@@ -40,7 +40,7 @@ alike-join Sequence f g f′ g′ t u =
 alike-join Choice f g f′ g′ t u =
     record { nothing-same = ap₂ (λ (i j : Bool). i || j) (t .nothing-same) (u .nothing-same); first-same = ap₂ (λ (i j : Bool). i || j) (t .first-same) (u .first-same) }
 
-alike-quantify : (q : Quantifier) (f g : Facts) → Alike f g → Alike (quantify q f) (quantify q g)
+alike-quantify : (q : Quantifier) (f g : Facts) → Alike f g → Alike (quantifyFacts q f) (quantifyFacts q g)
 alike-quantify None f g t = t
 alike-quantify Qmark f g t = record { nothing-same = refl; first-same = t .first-same }
 alike-quantify Star f g t = record { nothing-same = refl; first-same = t .first-same }
@@ -50,10 +50,10 @@ alike-facts : (k : GroupKind) (ms : Members ℕ) (x z y : ℕ) → Alike (facts 
 unfolding facts
 alike-facts k done x z y = record { nothing-same = refl; first-same = refl }
 alike-facts k (el q n rest) x z y =
-    alike-join k (quantify q (single numbers n x y)) (facts numbers k rest x y) (quantify q (single numbers n z y)) (facts numbers k rest z y)
+    alike-join k (quantifyFacts q (single numbers n x y)) (facts numbers k rest x y) (quantifyFacts q (single numbers n z y)) (facts numbers k rest z y)
     (alike-quantify q (single numbers n x y) (single numbers n z y) (record { nothing-same = refl; first-same = refl })) (alike-facts k rest x z y)
 alike-facts k (group q j ms rest) x z y =
-    alike-join k (quantify q (facts numbers j ms x y)) (facts numbers k rest x y) (quantify q (facts numbers j ms z y)) (facts numbers k rest z y)
+    alike-join k (quantifyFacts q (facts numbers j ms x y)) (facts numbers k rest x y) (quantifyFacts q (facts numbers j ms z y)) (facts numbers k rest z y)
     (alike-quantify q (facts numbers j ms x y) (facts numbers j ms z y) (alike-facts j ms x z y)) (alike-facts k rest x z y)
 
 -- ---- what the sets of a whole model say of the automaton

@@ -13,7 +13,7 @@ use Rattle.rules.specs.declared.GroupKind.{GroupKind}
 use Rattle.rules.specs.declared.GroupKind.the-variants.{Sequence, Choice}
 use Rattle.rules.specs.Bytes.{Bytes, numbers}
 use Rattle.rules.specs.Decode.{readParticle}
-use Rattle.rules.specs.Automaton.{single, empty, join, quantify, facts}
+use Rattle.rules.specs.Automaton.{single, empty, join, quantifyFacts, facts}
 use Rattle.rules.specs.Layout.{particleSize}
 use Rattle.codec.proofs.Writers.{tail-seen}
 use Rattle.sets.specs.Sets.{has, bit, union}
@@ -37,7 +37,7 @@ never-join : (k : GroupKind) (f g : Facts) → Never f → Never g → Never (jo
 never-join Sequence f g t u = record { last-not = rw (t .last-not, u .last-not) (and-false (g .nothing)); follow-not = rw (t .follow-not, u .follow-not, t .last-not) }
 never-join Choice f g t u = record { last-not = rw (t .last-not, u .last-not); follow-not = rw (t .follow-not, u .follow-not) }
 
-never-quantify : (q : Quantifier) (f : Facts) → Never f → Never (quantify q f)
+never-quantify : (q : Quantifier) (f : Facts) → Never f → Never (quantifyFacts q f)
 never-quantify None f t = t
 never-quantify Qmark f t = record { last-not = t .last-not; follow-not = t .follow-not }
 never-quantify Star f t = record { last-not = t .last-not; follow-not = rw (t .follow-not, t .last-not) }

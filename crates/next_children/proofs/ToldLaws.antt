@@ -11,7 +11,7 @@ use Rattle.rules.specs.declared.GroupKind.{GroupKind}
 use Rattle.rules.specs.declared.GroupKind.the-variants.{Sequence, Choice}
 use Rattle.rules.specs.Bytes.{Bytes, numbers}
 use Rattle.rules.specs.Decode.{readParticle}
-use Rattle.rules.specs.Automaton.{single, empty, join, quantify, facts}
+use Rattle.rules.specs.Automaton.{single, empty, join, quantifyFacts, facts}
 use Rattle.rules.specs.Layout.{particleSize}
 use Rattle.sets.specs.Sets.{has, union, wholeIf}
 use Rattle.sets.proofs.Laws.{has-none, has-bit, has-union, has-given}
@@ -60,7 +60,7 @@ told-join Choice r s f g t u =
 told-again : (r : Nexts) (f : ℕ → Facts) → Told r f → (y : ℕ) → y < 64 → has (union (r .follow) (wholeIf (r .last) (r .first))) y ≡ (f y .follow || (f y .last && f y .first))
 told-again r f t y h = has-more y (r .follow) (r .last) (r .first) (f y .follow) (f y .last) (f y .first) (t .follow-is y h) (t .last-is y) (t .first-is y h)
 
-told-quantify : (q : Quantifier) (r : Nexts) (f : ℕ → Facts) → Told r f → Told (nextsQuantify q r) (λ y. quantify q (f y))
+told-quantify : (q : Quantifier) (r : Nexts) (f : ℕ → Facts) → Told r f → Told (nextsQuantify q r) (λ y. quantifyFacts q (f y))
 told-quantify None r f t = t
 told-quantify Qmark r f t = record { nothing-is = λ y. refl; first-is = t .first-is; last-is = t .last-is; follow-is = t .follow-is }
 told-quantify Star r f t = record { nothing-is = λ y. refl; first-is = t .first-is; last-is = t .last-is; follow-is = told-again r f t }
@@ -80,7 +80,7 @@ told-as r r′ f g e s t =
 module _ (d x : ℕ) (s : Bytes) (p : Particle) (ep : p ≡ particleOf (readParticle s)) where
   pub told-element : (i : ℕ) (here r : Nexts) → p .what ≡ Element i → here ≡ nextsSingle i x → r ≡ nextsQuantify (p .quantifier) here → Told r (λ y. firstFacts d s x y)
   told-element i here r w eh er =
-      told-as (nextsQuantify (p .quantifier) (nextsSingle i x)) r (λ y. quantify (p .quantifier) (single numbers i x y)) (λ y. firstFacts d s x y) (er ∙ ap (nextsQuantify (p .quantifier)) eh)
+      told-as (nextsQuantify (p .quantifier) (nextsSingle i x)) r (λ y. quantifyFacts (p .quantifier) (single numbers i x y)) (λ y. firstFacts d s x y) (er ∙ ap (nextsQuantify (p .quantifier)) eh)
       (λ y. first-element d x y s p ep i _ w refl)
       (told-quantify (p .quantifier) (nextsSingle i x) (λ y. single numbers i x y) (told-single i x))
 
@@ -88,7 +88,7 @@ module _ (d x : ℕ) (s : Bytes) (p : Particle) (ep : p ≡ particleOf (readPart
       → r ≡ nextsQuantify (p .quantifier) below → Told r (λ y. firstFacts d s x y)
   told-group j n below r w t er =
       told-as (nextsQuantify (p .quantifier) below) r
-      (λ y. quantify (p .quantifier) (facts numbers j (membersFrom (d + 1) (take (length s - particleSize) (drop particleSize s))) x y))
+      (λ y. quantifyFacts (p .quantifier) (facts numbers j (membersFrom (d + 1) (take (length s - particleSize) (drop particleSize s))) x y))
       (λ y. firstFacts d s x y) er
       (λ y. first-group d x y s p ep j n _ _ w refl refl)
       (told-quantify (p .quantifier) below (λ y. facts numbers j (membersFrom (d + 1) (take (length s - particleSize) (drop particleSize s))) x y) t)

@@ -10,7 +10,7 @@ use Rattle.row_walk.specs.declared.Which.{Which}
 use Rattle.row_walk.specs.declared.Which.the-variants.{Nothing, Everything, Ground, Elements, Attributes, Serial}
 use Rattle.row_walk.specs.declared.Plan.{Plan}
 use Rattle.row_walk.specs.declared.Open.{Open}
-use Rattle.row_walk.specs.Walk.{matches, isEverything, namesGround, keptRow, closes, closed, isBelow, isTaken, isFilled, taken, kept, owed, rowDepth, emitted, nextOpen, walked, atFirst}
+use Rattle.row_walk.specs.Walk.{matches, isEverything, namesGround, keptRow, closes, closed, isBelow, isTaken, isFilled, afterTaken, afterKept, owed, rowDepth, emitted, nextOpen, walked, atFirst}
 use Rattle.planned_rows.specs.Planned.{fillOf, rowsAfter}
 
 -- whether no row is one of them
@@ -54,7 +54,7 @@ module _ (p : Plan) (v : Bytes) (none : isNothing (p .takes) ≡ true) (dry : p 
       by true = refl
       by false = refl
 
-  kept-calm : (b : ℕ) (x : Deep FlatRow) → kept p (calm b) x ≡ calm (deeper b x)
+  kept-calm : (b : ℕ) (x : Deep FlatRow) → afterKept p (calm b) x ≡ calm (deeper b x)
   kept-calm b x = by (matches (p .above) (x .row))
     where
       by : (m : Bool)
@@ -77,7 +77,7 @@ module _ (p : Plan) (v : Bytes) (none : isNothing (p .takes) ≡ true) (dry : p 
 
     onward-calm : (b : ℕ) (x : Deep FlatRow) → nextOpen p v fill (calm b) x ≡ calm (deeper b x)
     unfolding nextOpen
-    onward-calm b x = ap (λ (t : Bool). elim t as (λ z. Open) [ true ↦ taken (calm b) x | false ↦ kept p (calm b) x ]) (not-taken (calm b) x) ∙ kept-calm b x
+    onward-calm b x = ap (λ (t : Bool). elim t as (λ z. Open) [ true ↦ afterTaken (calm b) x | false ↦ afterKept p (calm b) x ]) (not-taken (calm b) x) ∙ kept-calm b x
 
     walked-calm : (b : ℕ) (xs : List (Deep FlatRow)) → walked p v fill (calm b) xs ≡ map (keptRow p v) xs
     unfolding walked

@@ -13,7 +13,7 @@ use borrow.Author.Tests.{lt-ltb, ltb-false}
 use Rattle.rules.specs.Bytes.{Bytes, same, bytes, same-eq}
 use Rattle.rules.specs.Model.{Distinct}
 use Rattle.rules.specs.Store.{Attribute, Definition, Form, RowSort, element, attribute, text, Row, Forest, bare, tree, Store}
-use Rattle.rules.specs.Preorder.{Deep, flatten}
+use Rattle.rules.specs.Preorder.{Deep, preorder}
 use Rattle.rules.specs.Layout.{FlatRow, rowCode, rowIndex, indexOf, indexIn, attributeIndex, allAttributes, indexed, flat}
 use Rattle.rules.specs.Decode.{sortOf}
 use Rattle.rules.specs.WellFormed.{definitionName, attributeName}
@@ -99,7 +99,7 @@ module _ (s : Store) (g : good s ≡ true) where
             rw z (ap not (lt-ltb (attributeIndex (u .name) (r .name) (s .form)) a (own-lower o (s .form) once l (u .name) d f (r .name) m e)))
         by text z = rw z
 
-    filled : (m : Bytes) → name ≡ m → (d : ℕ) → fill d ≡ flatten d (indexed new m (q .filling))
+    filled : (m : Bytes) → name ≡ m → (d : ℕ) → fill d ≡ preorder d (indexed new m (q .filling))
     filled m e d =
         let z : attributeIndex m n new ≡ a =
         ap (λ (b : Bytes). attributeIndex b n new) (sym e) ∙ spot-own more o (s .form) once l n
@@ -120,7 +120,7 @@ module _ (s : Store) (g : good s ≡ true) where
               filled (r .name) (same-eq name (r .name) (and-split (isElement (r .sort)) (same name (r .name)) (and-split (mustBePresent (s .version) (sortOf k)) (elementNamed name r) e .1) .1));
         }
 
-    add-attribute-does : documentsWalk p v fill (indexed (s .form) [] (s .docs)) ≡ flatten 0 (indexed (formAfter (addAttribute o n k v) (s .form)) [] (docsAfter (addAttribute o n k v) s))
+    add-attribute-does : documentsWalk p v fill (indexed (s .form) [] (s .docs)) ≡ preorder 0 (indexed (formAfter (addAttribute o n k v) (s .form)) [] (docsAfter (addAttribute o n k v) s))
     unfolding plan formAfter
     add-attribute-does =
         documents-kept (s .form) new q p v fill record { keeps = refl; spares = refl } (s .docs) (sym (and-false (mustBePresent (s .version) (sortOf k))))
@@ -232,12 +232,12 @@ module _ (s : Store) (g : good s ≡ true) where
               )
 
       destroy-attribute-does : documentsWalk dropping v none-filled (indexed (s .form) [] (s .docs))
-          ≡ flatten 0 (indexed (formAfter (destroyAttribute a) (s .form)) [] (docsAfter (destroyAttribute a) s))
+          ≡ preorder 0 (indexed (formAfter (destroyAttribute a) (s .form)) [] (docsAfter (destroyAttribute a) s))
       unfolding plan formAfter
       destroy-attribute-does =
           documents-kept (s .form) left taker dropping v none-filled record { keeps = refl; spares = refl } (s .docs) refl (λ e. absurd (false≢true e))
           (kept-all (s .form) left taker dropping v none-filled (s .docs) (λ sel u. sel ≡ elementNamed owner u) (Owns (s .form)) drop-step refl (each-owned s g))
-          ∙ ap (λ (x : Option Owned). flatten 0 (indexed (dropOwned x (s .form)) [] (changed (dropPlan (λ o u. elementNamed (o .owner .name) u) x) (s .docs)))) (sym at)
+          ∙ ap (λ (x : Option Owned). preorder 0 (indexed (dropOwned x (s .form)) [] (changed (dropPlan (λ o u. elementNamed (o .owner .name) u) x) (s .docs)))) (sym at)
 
     destroy-attribute-holds : HoldsForm (attributeDropped a (flat s)) (formAfter (destroyAttribute a) (s .form))
     unfolding formAfter

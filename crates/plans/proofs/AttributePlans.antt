@@ -8,7 +8,7 @@ use lib.Dec.{eqb}
 use Rattle.rules.specs.Bytes.{Bytes, same, numbers, any, same-eq, eqb-eq}
 use Rattle.rules.specs.Model.{Distinct}
 use Rattle.rules.specs.Store.{Definition, Row, Forest, Store}
-use Rattle.rules.specs.Preorder.{Deep, flatten}
+use Rattle.rules.specs.Preorder.{Deep, preorder}
 use Rattle.rules.specs.Layout.{FlatRow, attributeIndex, indexed, flat}
 use Rattle.rules.specs.WellFormed.{definitionName, attributeName}
 use Rattle.rules.specs.Conforming.{nameOf, isElement}
@@ -93,7 +93,7 @@ module _ (s : Store) (g : good s ≡ true) (k a : ℕ) (o : Owned) (at : attribu
             ))
             above-ground;
       }
-      ∙ ap (λ (x : Option Owned). flatten 0 (indexed (s .form) [] (changed (dropPlan (λ o u. elementWith k u) x) (s .docs)))) (sym at)
+      ∙ ap (λ (x : Option Owned). preorder 0 (indexed (s .form) [] (changed (dropPlan (λ o u. elementWith k u) x) (s .docs)))) (sym at)
     where
       q : change.Plan
       q = taking (λ u r. elementWith k u && attributeNamed (o .attribute .name) r)
@@ -126,7 +126,7 @@ module _ (s : Store) (g : good s ≡ true) (k a : ℕ) (o : Owned) (at : attribu
             ))
             above-ground;
       }
-      ∙ ap (λ (z : change.Plan). flatten 0 (indexed (s .form) [] (changed z (s .docs)))) (sym (set-plan v [] absent))
+      ∙ ap (λ (z : change.Plan). preorder 0 (indexed (s .form) [] (changed z (s .docs)))) (sym (set-plan v [] absent))
     where
       q : change.Plan
       q = setAt k o v []
@@ -134,7 +134,7 @@ module _ (s : Store) (g : good s ≡ true) (k a : ℕ) (o : Owned) (at : attribu
       fill : ℕ → List (Deep FlatRow)
       fill = fillOf (setAttributePlan k a 0) v (flat s)
 
-      filled : (n : Bytes) → n ≡ o .owner .name → (d : ℕ) → fill d ≡ flatten d (indexed (s .form) n (q .filling))
+      filled : (n : Bytes) → n ≡ o .owner .name → (d : ℕ) → fill d ≡ preorder d (indexed (s .form) n (q .filling))
       filled n e d =
           let z : attributeIndex n (o .attribute .name) (s .form) ≡ a = ap (λ (z : Bytes). attributeIndex z (o .attribute .name) (s .form)) e ∙ own-index a (s .form) o once apart at in
           λ i. newAttributeRow d (sym z i) v ∷ []

@@ -8,7 +8,7 @@ use lib.Dec.{eqb}
 use lib.ListN.{length}
 use Rattle.rules.specs.Bytes.{Bytes, numbers}
 use Rattle.rules.specs.Store.{Row, Forest, Store}
-use Rattle.rules.specs.Preorder.{Deep, flatten}
+use Rattle.rules.specs.Preorder.{Deep, preorder}
 use Rattle.rules.specs.Layout.{FlatRow, indexed, flat}
 use Rattle.rules.specs.Lines.{lines, elementWith}
 use Rattle.rules.specs.Passing.{good}
@@ -117,7 +117,7 @@ module _ (s : Store) (g : good s ≡ true) where
         filling = λ e. absurd (false≢true e);
         rows = follows-all (s .form) (s .form) (setting m v) (settingPlan m) v fill (s .docs) (λ sel u. Unit {0}) (λ sel w u r b x n. (sets-follow (s .form) v fill sel w u r m, tt)) tt;
       }
-      ∙ ap (λ (q : change.Plan). flatten 0 (indexed (s .form) [] (changed q (s .docs)))) (sym e)
+      ∙ ap (λ (q : change.Plan). preorder 0 (indexed (s .form) [] (changed q (s .docs)))) (sym e)
     where
       fill : ℕ → List (Deep FlatRow)
       fill = fillOf (settingPlan m) v (flat s)

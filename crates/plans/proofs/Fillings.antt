@@ -11,7 +11,7 @@ use Rattle.rules.specs.declared.GroupKind.the-variants.{Sequence}
 use Rattle.rules.specs.Bytes.{Bytes}
 use Rattle.rules.specs.Model.{Members, names, rename, filling}
 use Rattle.rules.specs.Store.{Content, empty, pcdata, complex, Attribute, Form, Row, Forest, bare, tree, _⧺_, Store, modelOf}
-use Rattle.rules.specs.Preorder.{Deep, flatten}
+use Rattle.rules.specs.Preorder.{Deep, preorder}
 use Rattle.rules.specs.Layout.{valueWidth, FlatAttribute, FlatRow, flat, kindCode, ownAttributes, allAttributes, indexed}
 use Rattle.rules.specs.Decode.{nameAt, sortOf}
 use Rattle.rules.specs.WellFormed.{WellFormed}
@@ -35,11 +35,11 @@ use Rattle.filling.specs.Parts.{valueOf}
 use Rattle.planned_rows.specs.Planned.{membersAt}
 
 -- ---- forests side by side
-pub flatten-beside : {A : Type 0} (d : ℕ) (f g : Forest A) → flatten d (f ⧺ g) ≡ flatten d f ++ flatten d g
-flatten-beside d bare g = refl
-flatten-beside {A} d (tree r b t) g =
+pub preorder-beside : {A : Type 0} (d : ℕ) (f g : Forest A) → preorder d (f ⧺ g) ≡ preorder d f ++ preorder d g
+preorder-beside d bare g = refl
+preorder-beside {A} d (tree r b t) g =
     ap (λ (z : List (Deep A)). record { depth = d; row = r } ∷ z)
-    (ap (λ (z : List (Deep A)). flatten (suc d) b ++ z) (flatten-beside d t g) ∙ sym (append-assoc (flatten (suc d) b) (flatten d t) (flatten d g)))
+    (ap (λ (z : List (Deep A)). preorder (suc d) b ++ z) (preorder-beside d t g) ∙ sym (append-assoc (preorder (suc d) b) (preorder d t) (preorder d g)))
 
 pub indexed-beside : (form : Form) (owner : Bytes) (f g : Forest Row) → indexed form owner (f ⧺ g) ≡ indexed form owner f ⧺ indexed form owner g
 indexed-beside form owner bare g = refl
@@ -151,7 +151,7 @@ module _ (version w : ℕ) (form : Form) (ok : WellFormed w form) (F : IndexForm
 
   -- the attributes' rows, then the content
   attributes-index : (d i j : ℕ) (table : List Attribute) (content : Forest Row) → Block version F form i j table
-      → flatten d (indexed form (nameAt i (namesOf form)) (fillAttributes version table content)) ≡ requiredIn version d j table ++ flatten d (indexed form (nameAt i (namesOf form)) content)
+      → preorder d (indexed form (nameAt i (namesOf form)) (fillAttributes version table content)) ≡ requiredIn version d j table ++ preorder d (indexed form (nameAt i (namesOf form)) content)
   unfolding fillAttributes
   attributes-index d i j [] content b = refl
   attributes-index d i j (a ∷ table) content b = by (mustBePresent version (a .sort)) (attributes-index d i (suc j) table content (b .1))
@@ -160,10 +160,10 @@ module _ (version w : ℕ) (form : Form) (ok : WellFormed w form) (F : IndexForm
       n = nameAt i (namesOf form)
 
       C : List (Deep FlatRow)
-      C = flatten d (indexed form n content)
+      C = preorder d (indexed form n content)
 
-      by : (c : Bool) → flatten d (indexed form n (fillAttributes version table content)) ≡ requiredIn version d (suc j) table ++ C
-          → flatten d (indexed form n (elim c as (λ z. Forest Row) [ true ↦ tree (attributeRow a) bare (fillAttributes version table content) | false ↦ fillAttributes version table content ]))
+      by : (c : Bool) → preorder d (indexed form n (fillAttributes version table content)) ≡ requiredIn version d (suc j) table ++ C
+          → preorder d (indexed form n (elim c as (λ z. Forest Row) [ true ↦ tree (attributeRow a) bare (fillAttributes version table content) | false ↦ fillAttributes version table content ]))
           ≡ (elim c as (λ z. List (Deep FlatRow)) [
             | true ↦ newAttributeRow d j (createdValue (a .sort) (a .value)) ∷ requiredIn version d (suc j) table
             | false ↦ requiredIn version d (suc j) table
@@ -174,38 +174,38 @@ module _ (version w : ℕ) (form : Form) (ok : WellFormed w form) (F : IndexForm
 
   -- fillings one after the other, from those of each
   each-index : (d : ℕ) (owner : Bytes) (fill : Bytes → Forest Row) (rows : ℕ → List (Deep FlatRow)) (is : List ℕ)
-      → ((i : ℕ) → List·Memᴰ i is → flatten d (indexed form owner (fill (nameAt i (namesOf form)))) ≡ rows i)
-      → flatten d (indexed form owner (fillEach fill (map (λ i. nameAt i (namesOf form)) is))) ≡ fillingsOf F value rows is
+      → ((i : ℕ) → List·Memᴰ i is → preorder d (indexed form owner (fill (nameAt i (namesOf form)))) ≡ rows i)
+      → preorder d (indexed form owner (fillEach fill (map (λ i. nameAt i (namesOf form)) is))) ≡ fillingsOf F value rows is
   unfolding fillEach fillingsOf
   each-index d owner fill rows [] f = refl
   each-index d owner fill rows (i ∷ is) f =
-      ap (λ (z : Forest FlatRow). flatten d z) (indexed-beside form owner (fill (nameAt i (namesOf form))) (fillEach fill (map (λ i. nameAt i (namesOf form)) is)))
-      ∙ flatten-beside d (indexed form owner (fill (nameAt i (namesOf form)))) (indexed form owner (fillEach fill (map (λ i. nameAt i (namesOf form)) is)))
+      ap (λ (z : Forest FlatRow). preorder d z) (indexed-beside form owner (fill (nameAt i (namesOf form))) (fillEach fill (map (λ i. nameAt i (namesOf form)) is)))
+      ∙ preorder-beside d (indexed form owner (fill (nameAt i (namesOf form)))) (indexed form owner (fillEach fill (map (λ i. nameAt i (namesOf form)) is)))
       ∙ ap₂ (λ (u v : List (Deep FlatRow)). u ++ v) (f i (List·Memᴰ·head refl)) (each-index d owner fill rows is (λ k m. f k (List·Memᴰ·tail m)))
 
   module _ (d i : ℕ) (l : i < length form) (owner : Bytes) (fill : Bytes → Forest Row) (rows : ℕ → List (Deep FlatRow))
-      (below : (k : ℕ) → k < length form → flatten d (indexed form owner (fill (nameAt k (namesOf form)))) ≡ rows k) where
-    content-index : flatten d (indexed form owner (fillContent fill txt (definitionAt i form .content))) ≡ contentRows F value rows txt d (F .model i) (F .kind i)
+      (below : (k : ℕ) → k < length form → preorder d (indexed form owner (fill (nameAt k (namesOf form)))) ≡ rows k) where
+    content-index : preorder d (indexed form owner (fillContent fill txt (definitionAt i form .content))) ≡ contentRows F value rows txt d (F .model i) (F .kind i)
     unfolding fillContent contentRows
     content-index = by (definitionAt i form .content) refl ∙ ap (contentRows F value rows txt d (F .model i)) (sym (agrees .kind i l))
       where
-        by : (c : Content) → definitionAt i form .content ≡ c → flatten d (indexed form owner (fillContent fill txt c)) ≡ contentRows F value rows txt d (F .model i) (kindCode c)
+        by : (c : Content) → definitionAt i form .content ≡ c → preorder d (indexed form owner (fillContent fill txt c)) ≡ contentRows F value rows txt d (F .model i) (kindCode c)
         by empty q = refl
         by pcdata q = refl
         by (complex ms) q =
             let e : ms ≡ rename (λ j. nameAt j (namesOf form)) (F .model i) = sym (ap modelOf q) ∙ agrees .model i l in
-            ap (λ (z : Members Bytes). flatten d (indexed form owner (fillEach fill (filling Sequence z)))) e
-            ∙ ap (λ (z : List Bytes). flatten d (indexed form owner (fillEach fill z))) (filling-rename (λ j. nameAt j (namesOf form)) Sequence (F .model i))
+            ap (λ (z : Members Bytes). preorder d (indexed form owner (fillEach fill (filling Sequence z)))) e
+            ∙ ap (λ (z : List Bytes). preorder d (indexed form owner (fillEach fill z))) (filling-rename (λ j. nameAt j (namesOf form)) Sequence (F .model i))
             ∙ each-index d owner fill rows (filling Sequence (F .model i)) (λ k m. below k (agrees .inRange i l k (in-filling k Sequence (F .model i) m)))
 
   -- of at most height h, at depth d
-  named-index : (h d i : ℕ) (owner : Bytes) → i < length form → flatten d (indexed form owner (fillWithin version h form txt (nameAt i (namesOf form)))) ≡ fillIndex F value h txt d i
+  named-index : (h d i : ℕ) (owner : Bytes) → i < length form → preorder d (indexed form owner (fillWithin version h form txt (nameAt i (namesOf form)))) ≡ fillIndex F value h txt d i
   unfolding fillWithin fillIndex
   named-index zero d i owner l = refl
   named-index (suc h) d i owner l =
-      ap (λ (z : Forest Row). flatten d (indexed form owner z)) (fill-known version h form txt n (definitionAt i form) (lookup-at form (ok .names) i l))
+      ap (λ (z : Forest Row). preorder d (indexed form owner z)) (fill-known version h form txt n (definitionAt i form) (lookup-at form (ok .names) i l))
       ∙ ap₂ (λ (k : ℕ) (z : List (Deep FlatRow)). newElement d k ∷ z) (index-name form (ok .names) i l)
-      (append-nil (flatten (suc d) (indexed form n (fillBelow version h form txt (definitionAt i form))))
+      (append-nil (preorder (suc d) (indexed form n (fillBelow version h form txt (definitionAt i form))))
       ∙ attributes-index (suc d) i (offset i form) (definitionAt i form .attributes)
       (fillContent (λ m. fillWithin version h form txt m) txt (definitionAt i form .content))
       (block-at version F form agrees (ok .names) i l (ok .definitions (definitionAt i form) (definition-stands form i l) .attributeNames))
@@ -215,12 +215,12 @@ module _ (version w : ℕ) (form : Form) (ok : WellFormed w form) (F : IndexForm
       n : Bytes
       n = nameAt i (namesOf form)
 
-  pub fill-index : (h d i : ℕ) (owner : Bytes) → i < length form → flatten d (indexed form owner (fillWithin version h form txt (nameAtIndex i form))) ≡ fillIndex F value h txt d i
-  fill-index h d i owner l = ap (λ (z : Bytes). flatten d (indexed form owner (fillWithin version h form txt z))) (sym (name-of form i l)) ∙ named-index h d i owner l
+  pub fill-index : (h d i : ℕ) (owner : Bytes) → i < length form → preorder d (indexed form owner (fillWithin version h form txt (nameAtIndex i form))) ≡ fillIndex F value h txt d i
+  fill-index h d i owner l = ap (λ (z : Bytes). preorder d (indexed form owner (fillWithin version h form txt z))) (sym (name-of form i l)) ∙ named-index h d i owner l
 
 -- THE FILLING OF A DEFINITION of a store that passes is written as the rows of its filling by indices
 pub filling-index : (s : Store) → good s ≡ true → (txt : Bytes) (d i : ℕ) (owner : Bytes) → i < length (s .form)
-    → flatten d (indexed (s .form) owner (fillDefinition (s .version) (s .form) txt (nameAtIndex i (s .form))))
+    → preorder d (indexed (s .form) owner (fillDefinition (s .version) (s .form) txt (nameAtIndex i (s .form))))
     ≡ fillingRows (flatIndexForm (flat s)) (λ j. valueOf (entryOf j (flat s .attributes))) (λ a b. membersAt (flat s) a b) (Definition i) txt d
 filling-index s g txt d i owner l =
     let back = unflat-flat s (good-known s g) (good-found s g) in

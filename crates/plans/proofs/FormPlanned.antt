@@ -5,7 +5,7 @@ use mathlib.Core.Path.{_≡_, sym, ap, ap₂, _∙_}
 use mathlib.Core.List.{List, []}
 use Rattle.rules.specs.Bytes.{Bytes}
 use Rattle.rules.specs.Store.{Forest, Store}
-use Rattle.rules.specs.Preorder.{Deep, flatten}
+use Rattle.rules.specs.Preorder.{Deep, preorder}
 use Rattle.rules.specs.Layout.{FlatRow, FlatStore, indexed, flat}
 use Rattle.rules.specs.Change.{Call, formAfter, docsAfter, after}
 use Rattle.row_writer.specs.Written.{newIn, numbered}
@@ -22,7 +22,7 @@ module _ (c : Call) (s : Store) (p : Plan) (v : Bytes) where
   standing = indexed (s .form) [] (s .docs)
 
   abbrev left : List (Deep FlatRow)
-  left = flatten 0 (indexed (formAfter c (s .form)) [] (docsAfter c s))
+  left = preorder 0 (indexed (formAfter c (s .form)) [] (docsAfter c s))
 
   -- the bodies of the form in g with other rows, n of them new
   abbrev withRows : FlatStore → ℕ → List (Deep FlatRow) → FlatStore
@@ -33,7 +33,7 @@ module _ (c : Call) (s : Store) (p : Plan) (v : Bytes) where
   rows-left clear e = sym e ∙ sym (walk-tree p v (fillOf p v (flat s)) standing clear)
 
   pub flat-planned-in : (g : FlatStore) → HoldsForm g (formAfter c (s .form)) → Clear p (indexed (s .form) [] (s .docs))
-      → documentsWalk p v (fillOf p v (flat s)) (indexed (s .form) [] (s .docs)) ≡ flatten 0 (indexed (formAfter c (s .form)) [] (docsAfter c s)) → flat (after c s) ≡ plannedIn g p v (flat s)
+      → documentsWalk p v (fillOf p v (flat s)) (indexed (s .form) [] (s .docs)) ≡ preorder 0 (indexed (formAfter c (s .form)) [] (docsAfter c s)) → flat (after c s) ≡ plannedIn g p v (flat s)
   unfolding after plannedIn
   flat-planned-in g holds clear e =
       ap₂ (withRows (flat (after c s))) (new-flat (formAfter c (s .form)) 0 [] (docsAfter c s)) (number-flat (formAfter c (s .form)) 0 [] (s .next) (docsAfter c s))

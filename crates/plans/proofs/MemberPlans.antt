@@ -11,7 +11,7 @@ use Rattle.rules.specs.Model.{Members, el, Distinct, skips, names}
 use Rattle.rules.specs.Place.{Context, Found, spine, beforePlace}
 use Rattle.rules.specs.Edit.{Edit, insert, remove, placeOf}
 use Rattle.rules.specs.Store.{Row, Forest, Store, members}
-use Rattle.rules.specs.Preorder.{Deep, flatten}
+use Rattle.rules.specs.Preorder.{Deep, preorder}
 use Rattle.rules.specs.Layout.{FlatRow, indexOf, indexed, flat}
 use Rattle.rules.specs.Decode.{quantifierOf}
 use Rattle.rules.specs.WellFormed.{definitionName, known}
@@ -62,8 +62,8 @@ module _ (s : Store) (g : good s ≡ true) (o : ℕ) (l : o < length (s .form)) 
             ))
             refl;
       }
-      ∙ sym (ap (flatten 0) (rows-kept (editAt remove p) o (s .form) [] (changed taker (s .docs))))
-      ∙ ap (λ (z : Option (Found Bytes)). flatten 0 (indexed (update o (inModel (editAt remove p)) (s .form)) [] (changed (pickedPlan (λ c t. removePlan owner t) z) (s .docs)))) (sym at)
+      ∙ sym (ap (preorder 0) (rows-kept (editAt remove p) o (s .form) [] (changed taker (s .docs))))
+      ∙ ap (λ (z : Option (Found Bytes)). preorder 0 (indexed (update o (inModel (editAt remove p)) (s .form)) [] (changed (pickedPlan (λ c t. removePlan owner t) z) (s .docs)))) (sym at)
     where
       x : ℕ
       x = indexOf n (s .form)
@@ -115,9 +115,9 @@ module _ (s : Store) (g : good s ≡ true) (o : ℕ) (l : o < length (s .form)) 
               follows-all (s .form) (s .form) maker inserting t fill (s .docs) (λ sel u. sel ≡ elementNamed owner u)
               (λ sel w u r b y j. (insert-row sel w u r b j, element-test (s .form) once o l (u .name) r)) refl;
         }
-        ∙ sym (ap (flatten 0) (rows-kept (editAt edit p) o (s .form) [] (changed maker (s .docs))))
+        ∙ sym (ap (preorder 0) (rows-kept (editAt edit p) o (s .form) [] (changed maker (s .docs))))
         ∙ ap
-        (λ (z : Option (Found Bytes)). flatten 0
+        (λ (z : Option (Found Bytes)). preorder 0
         (indexed (update o (inModel (editAt edit p)) (s .form)) []
         (changed (insertPlan (s .version) (s .form) owner t (quantifierOf k) (nameAtIndex i (s .form)) z) (s .docs))))
         (sym at)

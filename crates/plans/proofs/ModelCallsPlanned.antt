@@ -16,7 +16,7 @@ use Rattle.rules.specs.Store.{Store, members}
 use Rattle.rules.specs.Layout.{FlatStore, indexOf, flat}
 use Rattle.rules.specs.Decode.{quantifierOf}
 use Rattle.rules.specs.Passing.{good}
-use Rattle.rules.specs.Refusal.{past, first, conditions}
+use Rattle.rules.specs.Refusal.{pastEnd, first, conditions}
 use Rattle.rules.specs.Change.{insertElement, removeElement, changeQuantifier, changeGroupQuantifier, definitionAt, nameAtIndex, formAfter, after}
 use Rattle.rules.proofs.Words.{or-split}
 use Rattle.change_laws.proofs.Conditions.{not-past, none-holds}
@@ -39,7 +39,7 @@ module _ (s : Store) (g : good s ≡ true) (o : ℕ) (p : List ℕ) (c : Context
   unfolding conditions
   insert-element-planned i k t ms marks e at marked holds =
       let (text, (code, (index, more))) = none-holds (insertElement o p i k t) s e in
-      let (a, b) = or-split (past o (s .form)) (past i (s .form)) index in
+      let (a, b) = or-split (pastEnd o (s .form)) (pastEnd i (s .form)) index in
       flat-planned-in (insertElement o p i k t) s (insertElementPlan o marks i (not (skips (quantifierOf k)) && spine c)) t new holds
       (clear-elements s g o (insertElementPlan o marks i (not (skips (quantifierOf k)) && spine c)) (not-past o (s .form) a) refl)
       (insert-element-does s g o (not-past o (s .form) a) p i k t c ms (not-past i (s .form) b) at marks marked)

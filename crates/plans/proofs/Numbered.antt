@@ -7,7 +7,7 @@ use mathlib.Core.List.{List, _∷_, _++_}
 use lib.Dec.{eqb}
 use Rattle.rules.specs.Bytes.{Bytes}
 use Rattle.rules.specs.Store.{Form, Row, Forest, bare, tree}
-use Rattle.rules.specs.Preorder.{Deep, flatten}
+use Rattle.rules.specs.Preorder.{Deep, preorder}
 use Rattle.rules.specs.Layout.{FlatRow, rowCode, rowIndex, indexed}
 use Rattle.rules.specs.Change
 use Rattle.rules.specs.Change.{newRows, given, number}
@@ -35,24 +35,24 @@ module _ (form : Form) where
       by true q = rw (q, given)
       by false q = rw (q, given)
 
-  pub new-flat : (d : ℕ) (owner : Bytes) (f : Forest Row) → newRows f ≡ newIn (flatten d (indexed form owner f))
+  pub new-flat : (d : ℕ) (owner : Bytes) (f : Forest Row) → newRows f ≡ newIn (preorder d (indexed form owner f))
   unfolding newRows
   new-flat d owner bare = refl
   new-flat d owner (tree r b t) =
       ap₂ (λ (i j : ℕ). Change.isNew r + (i + j)) (new-flat (suc d) (r .name) b) (new-flat d owner t)
-      ∙ ap (λ (k : ℕ). Change.isNew r + k) (sym (new-append (flatten (suc d) (indexed form (r .name) b)) (flatten d (indexed form owner t))))
+      ∙ ap (λ (k : ℕ). Change.isNew r + k) (sym (new-append (preorder (suc d) (indexed form (r .name) b)) (preorder d (indexed form owner t))))
 
-  pub number-flat : (d : ℕ) (owner : Bytes) (n : ℕ) (f : Forest Row) → flatten d (indexed form owner (number n f)) ≡ numbered n (flatten d (indexed form owner f))
+  pub number-flat : (d : ℕ) (owner : Bytes) (n : ℕ) (f : Forest Row) → preorder d (indexed form owner (number n f)) ≡ numbered n (preorder d (indexed form owner f))
   unfolding number
   number-flat d owner n bare = refl
   number-flat d owner n (tree r b t) =
       ap₂ (λ (x : Deep FlatRow) (l : List (Deep FlatRow)). x ∷ l) (given-stored d n owner r)
       (ap₂ (λ (k l : List (Deep FlatRow)). k ++ l)
-      (ap (λ (m : Bytes). flatten (suc d) (indexed form m (number (n + Change.isNew r) b))) (given-name n r) ∙ number-flat (suc d) (r .name) (n + Change.isNew r) b)
+      (ap (λ (m : Bytes). preorder (suc d) (indexed form m (number (n + Change.isNew r) b))) (given-name n r) ∙ number-flat (suc d) (r .name) (n + Change.isNew r) b)
       (number-flat d owner (n + (Change.isNew r + newRows b)) t
-      ∙ ap (λ (k : ℕ). numbered k (flatten d (indexed form owner t))) (ap (λ (k : ℕ). n + (Change.isNew r + k)) (new-flat (suc d) (r .name) b) ∙ later)))
+      ∙ ap (λ (k : ℕ). numbered k (preorder d (indexed form owner t))) (ap (λ (k : ℕ). n + (Change.isNew r + k)) (new-flat (suc d) (r .name) b) ∙ later)))
       ∙ ap (λ (l : List (Deep FlatRow)). withSerial n (stored d owner r) ∷ l)
-      (sym (numbered-append (n + Change.isNew r) (flatten (suc d) (indexed form (r .name) b)) (flatten d (indexed form owner t))))
+      (sym (numbered-append (n + Change.isNew r) (preorder (suc d) (indexed form (r .name) b)) (preorder d (indexed form owner t))))
     where
-      later : n + (Change.isNew r + newIn (flatten (suc d) (indexed form (r .name) b))) ≡ n + Change.isNew r + newIn (flatten (suc d) (indexed form (r .name) b))
+      later : n + (Change.isNew r + newIn (preorder (suc d) (indexed form (r .name) b))) ≡ n + Change.isNew r + newIn (preorder (suc d) (indexed form (r .name) b))
       later = omega arith

@@ -14,7 +14,7 @@ use Rattle.rules.specs.Quantifiers.{gains, cuts}
 use Rattle.rules.specs.Place.{Context, Found, spine, beforePlace}
 use Rattle.rules.specs.Edit.{quantify, placeOf, _⊕_}
 use Rattle.rules.specs.Store.{Row, Forest, heads, Store, members}
-use Rattle.rules.specs.Preorder.{Deep, flatten}
+use Rattle.rules.specs.Preorder.{Deep, preorder}
 use Rattle.rules.specs.Layout.{FlatRow, indexOf, indexed, flat}
 use Rattle.rules.specs.Decode.{quantifierOf}
 use Rattle.rules.specs.WellFormed.{definitionName, known}
@@ -74,8 +74,8 @@ module _ (s : Store) (g : good s ≡ true) (o : ℕ) (l : o < length (s .form)) 
   rowsOf what d = fillingRows (flatIndexForm (flat s)) (λ j. valueOf (entryOf j (flat s .attributes))) (λ a b. membersAt (flat s) a b) what t d
 
   -- the filling if there is a gain
-  gained : (what : Filling) (rows : Forest Row) (b : Bool) (d : ℕ) (m : Bytes) → (b ≡ true → rowsOf what d ≡ flatten d (indexed (s .form) m rows))
-      → rowsOf (gainFilling b what) d ≡ owed b (flatten d (indexed (s .form) m rows))
+  gained : (what : Filling) (rows : Forest Row) (b : Bool) (d : ℕ) (m : Bytes) → (b ≡ true → rowsOf what d ≡ preorder d (indexed (s .form) m rows))
+      → rowsOf (gainFilling b what) d ≡ owed b (preorder d (indexed (s .form) m rows))
   gained what rows true d m e = e refl
   gained what rows false d m e = refl
 
@@ -92,10 +92,10 @@ module _ (s : Store) (g : good s ≡ true) (o : ℕ) (l : o < length (s .form)) 
     among : (r : Row) → elementNamed n r ≡ elementAmong (n ∷ []) r
     among r = ap (λ (z : Bool). isElement (r .sort) && z) (same-one n (r .name))
 
-    definition-rows : (d : ℕ) (m : Bytes) → rowsOf (Definition x) d ≡ flatten d (indexed (s .form) m (fillDefinition (s .version) (s .form) t n))
+    definition-rows : (d : ℕ) (m : Bytes) → rowsOf (Definition x) d ≡ preorder d (indexed (s .form) m (fillDefinition (s .version) (s .form) t n))
     definition-rows d m =
         let (below, name) = index-of-name (s .form) once n there in
-        sym (filling-index s g t d x m below) ∙ ap (λ (z : Bytes). flatten d (indexed (s .form) m (fillDefinition (s .version) (s .form) t z))) name
+        sym (filling-index s g t d x m below) ∙ ap (λ (z : Bytes). preorder d (indexed (s .form) m (fillDefinition (s .version) (s .form) t z))) name
 
     standing : (cut || gain) ≡ true → (r : Row) (b : Forest Row) → Standing (s .docs) r b → elementNamed owner r ≡ true → NoneAt (n ∷ []) (heads b) ⊎ FirstAt (beforePlace c) (n ∷ []) (heads b)
     unfolding names _⊕_
@@ -110,9 +110,9 @@ module _ (s : Store) (g : good s ≡ true) (o : ℕ) (l : o < length (s .form)) 
         requantify-does s g o l c (n ∷ []) marks cut gain x n (Definition x) t (fillDefinition (s .version) (s .form) t n) (elementNamed n) marked standing
         among (λ e m r. named-test (s .form) once n there m r) (λ e. among)
         (λ d m. gained (Definition x) (fillDefinition (s .version) (s .form) t n) gain d m (λ e. definition-rows d m))
-        ∙ sym (ap (flatten 0) (rows-kept (editAt (quantify new) p) o (s .form) [] (changed (quantifyPlan (s .version) (s .form) (lines 0 (s .docs)) owner t new c (el old n rest)) (s .docs))))
+        ∙ sym (ap (preorder 0) (rows-kept (editAt (quantify new) p) o (s .form) [] (changed (quantifyPlan (s .version) (s .form) (lines 0 (s .docs)) owner t new c (el old n rest)) (s .docs))))
         ∙ ap
-        (λ (z : Option (Found Bytes)). flatten 0
+        (λ (z : Option (Found Bytes)). preorder 0
         (indexed (update o (inModel (editAt (quantify new) p)) (s .form)) []
         (changed (pickedPlan (quantifyPlan (s .version) (s .form) (lines 0 (s .docs)) owner t new) z) (s .docs))))
         (sym at)
@@ -134,10 +134,10 @@ module _ (s : Store) (g : good s ≡ true) (o : ℕ) (l : o < length (s .form)) 
     unfolding names
     known-member n m = picked-known s g o l (quantify new) p (record { context = c; picked = group old j ms rest }) at n (Memᴰ·append-left (names rest) m)
 
-    group-rows : gain ≡ true → (d : ℕ) (m : Bytes) → rowsOf (Particles j f e) d ≡ flatten d (indexed (s .form) m rows)
+    group-rows : gain ≡ true → (d : ℕ) (m : Bytes) → rowsOf (Particles j f e) d ≡ preorder d (indexed (s .form) m rows)
     group-rows h d m =
         filling-group s g t d m j ms f e known-member (begin h)
-        ∙ ap (λ (ns : List Bytes). flatten d (indexed (s .form) m (fillEach (λ n. fillDefinition (s .version) (s .form) t n) ns))) (sym (needed h))
+        ∙ ap (λ (ns : List Bytes). preorder d (indexed (s .form) m (fillEach (λ n. fillDefinition (s .version) (s .form) t n) ns))) (sym (needed h))
 
     standing-group : gain ≡ true → (r : Row) (b : Forest Row) → Standing (s .docs) r b → elementNamed owner r ≡ true → NoneAt (names ms) (heads b) ⊎ FirstAt (beforePlace c) (names ms) (heads b)
     unfolding names _⊕_
@@ -155,9 +155,9 @@ module _ (s : Store) (g : good s ≡ true) (o : ℕ) (l : o < length (s .form)) 
         requantify-does s g o l c (names ms) marks false gain 0 [] (Particles j f e) t rows (elementAmong (names ms)) marked standing-group (λ r. refl)
         (λ e. absurd (false≢true e)) (λ e. absurd (false≢true e))
         (λ d m. gained (Particles j f e) rows gain d m (λ h. group-rows h d m))
-        ∙ sym (ap (flatten 0) (rows-kept (editAt (quantify new) p) o (s .form) [] (changed (quantifyPlan (s .version) (s .form) (lines 0 (s .docs)) owner t new c (group old j ms rest)) (s .docs))))
+        ∙ sym (ap (preorder 0) (rows-kept (editAt (quantify new) p) o (s .form) [] (changed (quantifyPlan (s .version) (s .form) (lines 0 (s .docs)) owner t new c (group old j ms rest)) (s .docs))))
         ∙ ap
-        (λ (z : Option (Found Bytes)). flatten 0
+        (λ (z : Option (Found Bytes)). preorder 0
         (indexed (update o (inModel (editAt (quantify new) p)) (s .form)) []
         (changed (pickedPlan (quantifyPlan (s .version) (s .form) (lines 0 (s .docs)) owner t new) z) (s .docs))))
         (sym at)

@@ -11,7 +11,7 @@ use Rattle.rules.specs.Bytes.{Bytes, isNone}
 use Rattle.rules.specs.Model.{Distinct}
 use Rattle.rules.specs.Place.{Context, beforePlace}
 use Rattle.rules.specs.Store.{Row, Forest, bare, tree, heads, Store}
-use Rattle.rules.specs.Preorder.{Deep, flatten}
+use Rattle.rules.specs.Preorder.{Deep, preorder}
 use Rattle.rules.specs.Layout.{FlatRow, indexed, flat}
 use Rattle.rules.specs.WellFormed.{definitionName}
 use Rattle.rules.specs.Lines.{Line, lines, elementNamed, elementAmong, childrenOf, serialAt}
@@ -64,7 +64,7 @@ module _ (s : Store) (g : good s ≡ true) (o : ℕ) (l : o < length (s .form)) 
     (tests : (r : Row) → test r ≡ elementAmong ns r)
     (takes : cut ≡ true → (m : Bytes) (r : Row) → matches (Elements x) (rowWritten (s .form) m r) ≡ elementNamed n r)
     (alone : cut ≡ true → (r : Row) → elementNamed n r ≡ elementAmong ns r)
-    (fills : (d : ℕ) (m : Bytes) → fillOf (requantifyPlan o marks cut x gain what) v (flat s) d ≡ owed gain (flatten d (indexed (s .form) m rows))) where
+    (fills : (d : ℕ) (m : Bytes) → fillOf (requantifyPlan o marks cut x gain what) v (flat s) d ≡ owed gain (preorder d (indexed (s .form) m rows))) where
   abbrev owner : Bytes
   owner = nameAtIndex o (s .form)
 
@@ -211,7 +211,7 @@ module _ (s : Store) (g : good s ≡ true) (o : ℕ) (l : o < length (s .form)) 
               (λ d.
               ap (λ (z : Bool). owed z (fill d)) (filled f ∙ ap (λ (z : Bool). late && not z) here ∙ and-true late)
               ∙ ap (owed late) (fills d (u .name))
-              ∙ owed-twice late gain (flatten d (indexed (s .form) (u .name) rows))),
+              ∙ owed-twice late gain (preorder d (indexed (s .form) (u .name) rows))),
           enter u r b i inside,
           (next late refl, beside),
         )
@@ -305,6 +305,6 @@ module _ (s : Store) (g : good s ≡ true) (o : ℕ) (l : o < length (s .form)) 
       by (waiting a e f named k first serial distinct) = step-as w u r b t sel due owes true true false a e f (step-waiting w u r b t this inside beside named k first serial distinct)
       by (over a e f named other) = step-as w u r b t sel due owes true false false a e f (step-over w u r b t this inside beside named other)
 
-  pub requantify-does : documentsWalk p v fill (indexed (s .form) [] (s .docs)) ≡ flatten 0 (indexed (s .form) [] (changed requantified (s .docs)))
+  pub requantify-does : documentsWalk p v fill (indexed (s .form) [] (s .docs)) ≡ preorder 0 (indexed (s .form) [] (changed requantified (s .docs)))
   requantify-does =
       documents-simulate (s .form) (s .form) requantified p v fill State record { ends = ends; steps = steps } (s .docs) (outside refl refl (and-false gain) refl, λ r b j. j)

@@ -8,7 +8,7 @@ use mathlib.Core.List.{List, []}
 use lib.Dec.{eqb}
 use Rattle.rules.specs.Bytes.{Bytes}
 use Rattle.rules.specs.Store.{Form, Row, Forest, bare, tree}
-use Rattle.rules.specs.Preorder.{Deep, flatten}
+use Rattle.rules.specs.Preorder.{Deep, preorder}
 use Rattle.rules.specs.Layout.{FlatRow, indexed}
 use Rattle.rules.specs.Lines.{ground}
 use Rattle.rules.specs.Change.{changed}
@@ -108,7 +108,7 @@ module _ (form new : Form) (q : change.Plan) (p : Plan) (v : Bytes) (fill : ℕ 
 
   pub documents-kept : (docs : Forest Row) → (namesGround (p .above) && p .fills) ≡ q .fills ground → (q .fills ground ≡ true → Fills form new q p v fill [])
       → FollowsKept form new q p v fill (namesGround (p .above)) ground ground docs
-      → documentsWalk p v fill (indexed form [] docs) ≡ flatten 0 (indexed new [] (changed q docs))
+      → documentsWalk p v fill (indexed form [] docs) ≡ preorder 0 (indexed new [] (changed q docs))
   documents-kept docs e f h =
       documents-simulate form new q p v fill Alike record { ends = alike-end; steps = alike-step } docs
       record { same = sym e; chosen = λ z. and-split (namesGround (p .above)) (p .fills) z; fills = λ z. f (sym e ∙ z); rows = h }
@@ -117,5 +117,5 @@ module _ (form new : Form) (q : change.Plan) (p : Plan) (v : Bytes) (fill : ℕ 
   follows-kept sel w u bare h = tt
   follows-kept sel w u (tree r b t) (h, hb, ht) = (inr (h, follows-kept (matches (p .above) (rowWritten form (u .name) r)) (revalued q r) r b hb), follows-kept sel w u t ht)
 
-  pub documents-follow : (docs : Forest Row) → DocumentsFollow form new q p v fill docs → documentsWalk p v fill (indexed form [] docs) ≡ flatten 0 (indexed new [] (changed q docs))
+  pub documents-follow : (docs : Forest Row) → DocumentsFollow form new q p v fill docs → documentsWalk p v fill (indexed form [] docs) ≡ preorder 0 (indexed new [] (changed q docs))
   documents-follow docs h = documents-kept docs (h .fills) (h .filling) (follows-kept (namesGround (p .above)) ground ground docs (h .rows))

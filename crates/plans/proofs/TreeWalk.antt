@@ -8,13 +8,14 @@ use lib.Dec.{eqb, ltb}
 use borrow.Author.Tests.{lt-ltb, le-ltb, le-leb, lt-leb, eq-eqb, ne-eqb}
 use Rattle.rules.specs.Bytes.{Bytes}
 use Rattle.rules.specs.Store.{Forest, bare, tree}
-use Rattle.rules.specs.Preorder.{Deep, flatten}
+use Rattle.rules.specs.Preorder.{Deep, preorder}
 use Rattle.rules.specs.Layout.{FlatRow}
 use Rattle.row_walk.specs.declared.Which.{Which}
 use Rattle.row_walk.specs.declared.Which.the-variants.{Nothing, Everything, Ground, Elements, Attributes, Serial}
 use Rattle.row_walk.specs.declared.Plan.{Plan}
 use Rattle.row_walk.specs.declared.Open.{Open}
-use Rattle.row_walk.specs.Walk.{matches, isEverything, namesGround, isLater, keptRow, gone, closes, closed, isTaken, isFilled, taken, kept, owed, rowDepth, emitted, nextOpen, walked, atFirst}
+use Rattle.row_walk.specs.Walk.{matches, isEverything, namesGround, isLater, keptRow, isBelowTaken, closes, closed, isTaken, isFilled}
+use Rattle.row_walk.specs.Walk.{afterTaken, afterKept, owed, rowDepth, emitted, nextOpen, walked, atFirst}
 use Rattle.plans.specs.Trees.{takenAt, filledAt, treeWalk, documentsWalk, NoneOf, NotNested}
 use Rattle.plans.proofs.SimulationLaws.{walk-taken}
 
@@ -28,10 +29,10 @@ abbrev Shallow : ℕ → List (Deep FlatRow) → Type 0
 Shallow d [] = Unit {0}
 Shallow d (x ∷ xs) = x .depth < d
 
-shallow-flatten : (d : ℕ) (t : Forest FlatRow) (rest : List (Deep FlatRow)) → Shallow d rest → Shallow (suc d) (flatten d t ++ rest)
-shallow-flatten d bare [] h = tt
-shallow-flatten d bare (x ∷ rest) h = omega arith
-shallow-flatten d (tree r b t) rest h = omega arith
+shallow-preorder : (d : ℕ) (t : Forest FlatRow) (rest : List (Deep FlatRow)) → Shallow d rest → Shallow (suc d) (preorder d t ++ rest)
+shallow-preorder d bare [] h = tt
+shallow-preorder d bare (x ∷ rest) h = omega arith
+shallow-preorder d (tree r b t) rest h = omega arith
 
 -- what is open
 abbrev opened : ℕ → ℕ → Bool → Open
@@ -92,12 +93,12 @@ module _ (p : Plan) (v : Bytes) (fill : ℕ → List (Deep FlatRow)) where
   abbrev onRow : Open → Deep FlatRow → List (Deep FlatRow) → List (Deep FlatRow)
   onRow o x xs = emitted p v fill o x ++ walked p v fill (nextOpen p v fill o x) xs
 
-  walk-gone : (o : Open) (x : Deep FlatRow) (xs : List (Deep FlatRow)) → gone o x ≡ true → walked p v fill o (x ∷ xs) ≡ walked p v fill o xs
+  walk-gone : (o : Open) (x : Deep FlatRow) (xs : List (Deep FlatRow)) → isBelowTaken o x ≡ true → walked p v fill o (x ∷ xs) ≡ walked p v fill o xs
   unfolding walked
   walk-gone o x xs e =
       ap (λ (g : Bool). elim g [ true ↦ walked p v fill o xs | false ↦ owed (closes o x && o .due) (fill (rowDepth o)) ++ onRow (closed o x) x xs ]) e
 
-  walk-row : (o : Open) (x : Deep FlatRow) (xs : List (Deep FlatRow)) (c : Bool) → gone o x ≡ false → closes o x ≡ c
+  walk-row : (o : Open) (x : Deep FlatRow) (xs : List (Deep FlatRow)) (c : Bool) → isBelowTaken o x ≡ false → closes o x ≡ c
       → walked p v fill o (x ∷ xs) ≡ owed (c && o .due) (fill (rowDepth o)) ++ onRow (leftOpen c (o .below) (o .due)) x xs
   unfolding walked
   walk-row o x xs c e q =
@@ -121,32 +122,32 @@ module _ (p : Plan) (v : Bytes) (fill : ℕ → List (Deep FlatRow)) where
       ∙ ap (λ (l : List (Deep FlatRow)). owed u (fill d) ++ l) (sym (walk-row (opened 0 0 false) x rest false refl (le-ltb (suc (x .depth)) 0 (omega arith))))
 
   skipped : (k b : ℕ) (u : Bool) (e : ℕ) (f : Forest FlatRow) (rest : List (Deep FlatRow)) → k < e
-      → walked p v fill (opened (suc k) b u) (flatten e f ++ rest) ≡ walked p v fill (opened (suc k) b u) rest
+      → walked p v fill (opened (suc k) b u) (preorder e f ++ rest) ≡ walked p v fill (opened (suc k) b u) rest
   skipped k b u e bare rest h = refl
   skipped k b u e (tree r g t) rest h =
-      walk-gone (opened (suc k) b u) (at e r) ((flatten (suc e) g ++ flatten e t) ++ rest) (ap₂ (λ (i j : Bool). i && j) (lt-ltb 0 (suc k) (omega arith)) (le-leb (suc k) e h))
-      ∙ ap (walked p v fill (opened (suc k) b u)) (append-assoc (flatten (suc e) g) (flatten e t) rest)
-      ∙ skipped k b u (suc e) g (flatten e t ++ rest) (omega arith)
+      walk-gone (opened (suc k) b u) (at e r) ((preorder (suc e) g ++ preorder e t) ++ rest) (ap₂ (λ (i j : Bool). i && j) (lt-ltb 0 (suc k) (omega arith)) (le-leb (suc k) e h))
+      ∙ ap (walked p v fill (opened (suc k) b u)) (append-assoc (preorder (suc e) g) (preorder e t) rest)
+      ∙ skipped k b u (suc e) g (preorder e t ++ rest) (omega arith)
       ∙ skipped k b u e t rest h
 
   -- ---- a row that closes nothing is taken or kept
-  row-taken : (o : Open) (x : Deep FlatRow) (xs : List (Deep FlatRow)) → isTaken p o x ≡ true → onRow o x xs ≡ walked p v fill (taken o x) xs
+  row-taken : (o : Open) (x : Deep FlatRow) (xs : List (Deep FlatRow)) → isTaken p o x ≡ true → onRow o x xs ≡ walked p v fill (afterTaken o x) xs
   unfolding emitted nextOpen
   row-taken o x xs q =
       ap
       (λ (c : Bool).
-      elim c [ true ↦ [] | false ↦ owed (isFilled p o x) (fill (x .depth)) ++ keptRow p v x ∷ [] ] ++ walked p v fill (elim c [ true ↦ taken o x | false ↦ kept p o x ]) xs)
+      elim c [ true ↦ [] | false ↦ owed (isFilled p o x) (fill (x .depth)) ++ keptRow p v x ∷ [] ] ++ walked p v fill (elim c [ true ↦ afterTaken o x | false ↦ afterKept p o x ]) xs)
       q
 
   row-kept : (o : Open) (x : Deep FlatRow) (xs : List (Deep FlatRow)) → isTaken p o x ≡ false
-      → onRow o x xs ≡ owed (isFilled p o x) (fill (x .depth)) ++ (keptRow p v x ∷ walked p v fill (kept p o x) xs)
+      → onRow o x xs ≡ owed (isFilled p o x) (fill (x .depth)) ++ (keptRow p v x ∷ walked p v fill (afterKept p o x) xs)
   unfolding emitted nextOpen
   row-kept o x xs q =
       ap
       (λ (c : Bool).
-      elim c [ true ↦ [] | false ↦ owed (isFilled p o x) (fill (x .depth)) ++ keptRow p v x ∷ [] ] ++ walked p v fill (elim c [ true ↦ taken o x | false ↦ kept p o x ]) xs)
+      elim c [ true ↦ [] | false ↦ owed (isFilled p o x) (fill (x .depth)) ++ keptRow p v x ∷ [] ] ++ walked p v fill (elim c [ true ↦ afterTaken o x | false ↦ afterKept p o x ]) xs)
       q
-      ∙ append-assoc (owed (isFilled p o x) (fill (x .depth))) (keptRow p v x ∷ []) (walked p v fill (kept p o x) xs)
+      ∙ append-assoc (owed (isFilled p o x) (fill (x .depth))) (keptRow p v x ∷ []) (walked p v fill (afterKept p o x) xs)
 
   module _ (sel due : Bool) (d : ℕ) (r : FlatRow) (g t : Forest FlatRow) where
     -- the walk of the rows below r, and of those after it once r is kept
@@ -173,35 +174,35 @@ module _ (p : Plan) (v : Bytes) (fill : ℕ → List (Deep FlatRow)) where
 
     -- of a row that closes nothing: the walk of it, of the rows below it and of those after it
     node : (b : ℕ) (u m : Bool) (rest z : List (Deep FlatRow)) → b ≤ suc d → isTaken p (opened 0 b u) (at d r) ≡ takenAt p sel due r → (u && eqb b (suc d)) ≡ due
-        → matches (p .above) r ≡ m → Shallow d rest → walked p v fill (opened 0 b u) (flatten d t ++ rest) ≡ treeWalk p v fill sel due d t ++ z
-        → walked p v fill (openAfter b u m) (flatten (suc d) g ++ (flatten d t ++ rest)) ≡ treeWalk p v fill m (m && p .fills) (suc d) g ++ (others ++ z)
-        → walked p v fill (opened 0 b u) (flatten d (tree r g t) ++ rest) ≡ treeWalk p v fill sel due d (tree r g t) ++ z
+        → matches (p .above) r ≡ m → Shallow d rest → walked p v fill (opened 0 b u) (preorder d t ++ rest) ≡ treeWalk p v fill sel due d t ++ z
+        → walked p v fill (openAfter b u m) (preorder (suc d) g ++ (preorder d t ++ rest)) ≡ treeWalk p v fill m (m && p .fills) (suc d) g ++ (others ++ z)
+        → walked p v fill (opened 0 b u) (preorder d (tree r g t) ++ rest) ≡ treeWalk p v fill sel due d (tree r g t) ++ z
     node b u m rest z low tested owes one end skip keep =
-        walk-row (opened 0 b u) (at d r) ((flatten (suc d) g ++ flatten d t) ++ rest) false refl (le-ltb (suc d) b low)
-        ∙ ap (onRow (opened 0 b u) (at d r)) (append-assoc (flatten (suc d) g) (flatten d t) rest)
+        walk-row (opened 0 b u) (at d r) ((preorder (suc d) g ++ preorder d t) ++ rest) false refl (le-ltb (suc d) b low)
+        ∙ ap (onRow (opened 0 b u) (at d r)) (append-assoc (preorder (suc d) g) (preorder d t) rest)
         ∙ by (takenAt p sel due r) refl
       where
-        below : walked p v fill (kept p (opened 0 b u) (at d r)) (flatten (suc d) g ++ (flatten d t ++ rest)) ≡ inner ++ (others ++ z)
+        below : walked p v fill (afterKept p (opened 0 b u) (at d r)) (preorder (suc d) g ++ (preorder d t ++ rest)) ≡ inner ++ (others ++ z)
         below =
-            ap (λ (c : Bool). walked p v fill (openAfter b u c) (flatten (suc d) g ++ (flatten d t ++ rest))) one
+            ap (λ (c : Bool). walked p v fill (openAfter b u c) (preorder (suc d) g ++ (preorder d t ++ rest))) one
             ∙ keep
             ∙ ap (λ (c : Bool). treeWalk p v fill c (c && p .fills) (suc d) g ++ (others ++ z)) (sym one)
 
-        by : (c : Bool) → takenAt p sel due r ≡ c → onRow (opened 0 b u) (at d r) (flatten (suc d) g ++ (flatten d t ++ rest)) ≡ treeWalk p v fill sel due d (tree r g t) ++ z
+        by : (c : Bool) → takenAt p sel due r ≡ c → onRow (opened 0 b u) (at d r) (preorder (suc d) g ++ (preorder d t ++ rest)) ≡ treeWalk p v fill sel due d (tree r g t) ++ z
         by true q =
-            row-taken (opened 0 b u) (at d r) (flatten (suc d) g ++ (flatten d t ++ rest)) (tested ∙ q)
-            ∙ skipped d b u (suc d) g (flatten d t ++ rest) (omega arith)
-            ∙ done-taking (suc d) b u (flatten d t ++ rest) (shallow-flatten d t rest end)
+            row-taken (opened 0 b u) (at d r) (preorder (suc d) g ++ (preorder d t ++ rest)) (tested ∙ q)
+            ∙ skipped d b u (suc d) g (preorder d t ++ rest) (omega arith)
+            ∙ done-taking (suc d) b u (preorder d t ++ rest) (shallow-preorder d t rest end)
             ∙ skip
             ∙ ap (λ (l : List (Deep FlatRow)). l ++ z) (sym (walk-taken p v fill sel due d r g t q))
         by false q =
-            row-kept (opened 0 b u) (at d r) (flatten (suc d) g ++ (flatten d t ++ rest)) (tested ∙ q)
+            row-kept (opened 0 b u) (at d r) (preorder (suc d) g ++ (preorder d t ++ rest)) (tested ∙ q)
             ∙ ap₂ (λ (c : Bool) (l : List (Deep FlatRow)). owed (filledAt p c r) (fill d) ++ (keptRow p v (at d r) ∷ l)) owes below
             ∙ sym (tree-kept q z)
 
   -- ---- forests, by what is open: a row further up
   walk-deeper : (d b : ℕ) (u : Bool) (f : Forest FlatRow) (rest : List (Deep FlatRow)) → b ≤ d → NoneOf (matches (p .above)) f → Shallow d rest
-      → walked p v fill (opened 0 b u) (flatten d f ++ rest) ≡ treeWalk p v fill false false d f ++ walked p v fill (opened 0 b u) rest
+      → walked p v fill (opened 0 b u) (preorder d f ++ rest) ≡ treeWalk p v fill false false d f ++ walked p v fill (opened 0 b u) rest
   unfolding treeWalk
   walk-deeper d b u bare rest h none end = refl
   walk-deeper d b u (tree r g t) rest h (other, inside, beside) end =
@@ -209,9 +210,9 @@ module _ (p : Plan) (v : Bytes) (fill : ℕ → List (Deep FlatRow)) where
       (ap₂ (λ (e c : Bool). ((e || c) && matches (p .takes) r) && not (p .keeps && u)) (not-everything (p .above) r other) apart-is
       ∙ sym (ap (λ (e : Bool). ((e || false) && matches (p .takes) r) && not (p .keeps && false)) (not-everything (p .above) r other)))
       (ap (λ (c : Bool). u && c) apart-is ∙ and-false u) other end (walk-deeper d b u t rest h beside end)
-      (ap (λ (c : Bool). walked p v fill (opened 0 b (u && not (c && isLater (p .marks) (p .later) r))) (flatten (suc d) g ++ (flatten d t ++ rest))) apart-is
-      ∙ ap (λ (c : Bool). walked p v fill (opened 0 b c) (flatten (suc d) g ++ (flatten d t ++ rest))) (and-true u)
-      ∙ walk-deeper (suc d) b u g (flatten d t ++ rest) (omega arith) inside (shallow-flatten d t rest end)
+      (ap (λ (c : Bool). walked p v fill (opened 0 b (u && not (c && isLater (p .marks) (p .later) r))) (preorder (suc d) g ++ (preorder d t ++ rest))) apart-is
+      ∙ ap (λ (c : Bool). walked p v fill (opened 0 b c) (preorder (suc d) g ++ (preorder d t ++ rest))) (and-true u)
+      ∙ walk-deeper (suc d) b u g (preorder d t ++ rest) (omega arith) inside (shallow-preorder d t rest end)
       ∙ ap (λ (l : List (Deep FlatRow)). treeWalk p v fill false false (suc d) g ++ l) (walk-deeper d b u t rest h beside end))
     where
       apart-is : eqb b (suc d) ≡ false
@@ -219,15 +220,15 @@ module _ (p : Plan) (v : Bytes) (fill : ℕ → List (Deep FlatRow)) where
 
   -- the row right above
   walk-below : (d : ℕ) (u : Bool) (f : Forest FlatRow) (rest : List (Deep FlatRow)) → NoneOf (matches (p .above)) f → Shallow d rest
-      → walked p v fill (opened 0 (suc d) u) (flatten d f ++ rest) ≡ treeWalk p v fill true u d f ++ walked p v fill (opened 0 0 false) rest
+      → walked p v fill (opened 0 (suc d) u) (preorder d f ++ rest) ≡ treeWalk p v fill true u d f ++ walked p v fill (opened 0 0 false) rest
   unfolding treeWalk
   walk-below d u bare rest none end = done-below d u rest end
   walk-below d u (tree r g t) rest (other, inside, beside) end =
       node true u d r g t (suc d) u false rest (walked p v fill (opened 0 0 false) rest) (omega arith)
       (ap (λ (c : Bool). ((isEverything (p .above) || c) && matches (p .takes) r) && not (p .keeps && u)) here)
       (ap (λ (c : Bool). u && c) here ∙ and-true u) other end (walk-below d u t rest beside end)
-      (ap (λ (c : Bool). walked p v fill (opened 0 (suc d) (u && not (c && isLater (p .marks) (p .later) r))) (flatten (suc d) g ++ (flatten d t ++ rest))) here
-      ∙ walk-deeper (suc d) (suc d) (u && not (isLater (p .marks) (p .later) r)) g (flatten d t ++ rest) (omega arith) inside (shallow-flatten d t rest end)
+      (ap (λ (c : Bool). walked p v fill (opened 0 (suc d) (u && not (c && isLater (p .marks) (p .later) r))) (preorder (suc d) g ++ (preorder d t ++ rest))) here
+      ∙ walk-deeper (suc d) (suc d) (u && not (isLater (p .marks) (p .later) r)) g (preorder d t ++ rest) (omega arith) inside (shallow-preorder d t rest end)
       ∙ ap (λ (l : List (Deep FlatRow)). treeWalk p v fill false false (suc d) g ++ l) (walk-below d (u && not (isLater (p .marks) (p .later) r)) t rest beside end))
     where
       here : eqb (suc d) (suc d) ≡ true
@@ -235,20 +236,20 @@ module _ (p : Plan) (v : Bytes) (fill : ℕ → List (Deep FlatRow)) where
 
   -- none
   walk-apart : (d : ℕ) (f : Forest FlatRow) (rest : List (Deep FlatRow)) → NotNested (matches (p .above)) f → Shallow d rest
-      → walked p v fill (opened 0 0 false) (flatten d f ++ rest) ≡ treeWalk p v fill false false d f ++ walked p v fill (opened 0 0 false) rest
+      → walked p v fill (opened 0 0 false) (preorder d f ++ rest) ≡ treeWalk p v fill false false d f ++ walked p v fill (opened 0 0 false) rest
   unfolding treeWalk
   walk-apart d bare rest a end = refl
   walk-apart d (tree r g t) rest (none, inside, beside) end =
-      by (matches (p .above) r) refl (walk-apart (suc d) g (flatten d t ++ rest) inside (shallow-flatten d t rest end)) (walk-apart d t rest beside end)
+      by (matches (p .above) r) refl (walk-apart (suc d) g (preorder d t ++ rest) inside (shallow-preorder d t rest end)) (walk-apart d t rest beside end)
     where
       by : (m : Bool) → matches (p .above) r ≡ m
-          → walked p v fill (opened 0 0 false) (flatten (suc d) g ++ (flatten d t ++ rest)) ≡ treeWalk p v fill false false (suc d) g ++ walked p v fill (opened 0 0 false) (flatten d t ++ rest)
-          → walked p v fill (opened 0 0 false) (flatten d t ++ rest) ≡ treeWalk p v fill false false d t ++ walked p v fill (opened 0 0 false) rest
-          → walked p v fill (opened 0 0 false) (flatten d (tree r g t) ++ rest) ≡ treeWalk p v fill false false d (tree r g t) ++ walked p v fill (opened 0 0 false) rest
+          → walked p v fill (opened 0 0 false) (preorder (suc d) g ++ (preorder d t ++ rest)) ≡ treeWalk p v fill false false (suc d) g ++ walked p v fill (opened 0 0 false) (preorder d t ++ rest)
+          → walked p v fill (opened 0 0 false) (preorder d t ++ rest) ≡ treeWalk p v fill false false d t ++ walked p v fill (opened 0 0 false) rest
+          → walked p v fill (opened 0 0 false) (preorder d (tree r g t) ++ rest) ≡ treeWalk p v fill false false d (tree r g t) ++ walked p v fill (opened 0 0 false) rest
       by true q x y =
           node false false d r g t 0 false true rest (walked p v fill (opened 0 0 false) rest) (omega arith)
           (ap (λ (c : Bool). ((isEverything (p .above) || c) && matches (p .takes) r) && not (p .keeps && false)) (ne-eqb 0 (suc d) (λ e. omega arith))) refl q end y
-          (walk-below (suc d) (p .fills) g (flatten d t ++ rest) (none q) (shallow-flatten d t rest end)
+          (walk-below (suc d) (p .fills) g (preorder d t ++ rest) (none q) (shallow-preorder d t rest end)
           ∙ ap (λ (l : List (Deep FlatRow)). treeWalk p v fill true (p .fills) (suc d) g ++ l) y)
       by false q x y =
           node false false d r g t 0 false false rest (walked p v fill (opened 0 0 false) rest) (omega arith)
@@ -258,32 +259,32 @@ module _ (p : Plan) (v : Bytes) (fill : ℕ → List (Deep FlatRow)) where
   -- every row is one of `above`, and none has a filling
   walk-everywhere : (d b : ℕ) (sel : Bool) (f : Forest FlatRow) (rest : List (Deep FlatRow)) → isEverything (p .above) ≡ true → p .fills ≡ false → b ≤ suc d
       → walked p v fill (opened 0 b false) rest ≡ walked p v fill (opened 0 0 false) rest → Shallow d rest
-      → walked p v fill (opened 0 b false) (flatten d f ++ rest) ≡ treeWalk p v fill sel false d f ++ walked p v fill (opened 0 0 false) rest
+      → walked p v fill (opened 0 b false) (preorder d f ++ rest) ≡ treeWalk p v fill sel false d f ++ walked p v fill (opened 0 0 false) rest
   unfolding treeWalk
   walk-everywhere d b sel bare rest e n low same end = same
   walk-everywhere d b sel (tree r g t) rest e n low same end =
       node sel false d r g t b false true rest (walked p v fill (opened 0 0 false) rest) low
       (ap (λ (c : Bool). ((c || eqb b (suc d)) && matches (p .takes) r) && not (p .keeps && false)) e ∙ sym (ap (λ (c : Bool). ((c || sel) && matches (p .takes) r) && not (p .keeps && false)) e)) refl
       (everything-matches (p .above) e r) end (walk-everywhere d b sel t rest e n low same end)
-      (ap (λ (c : Bool). walked p v fill (opened 0 (suc (suc d)) c) (flatten (suc d) g ++ (flatten d t ++ rest))) n
-      ∙ walk-everywhere (suc d) (suc (suc d)) true g (flatten d t ++ rest) e n (omega arith) (done-below (suc d) false (flatten d t ++ rest) (shallow-flatten d t rest end))
-      (shallow-flatten d t rest end)
+      (ap (λ (c : Bool). walked p v fill (opened 0 (suc (suc d)) c) (preorder (suc d) g ++ (preorder d t ++ rest))) n
+      ∙ walk-everywhere (suc d) (suc (suc d)) true g (preorder d t ++ rest) e n (omega arith) (done-below (suc d) false (preorder d t ++ rest) (shallow-preorder d t rest end))
+      (shallow-preorder d t rest end)
       ∙ ap₂ (λ (c : Bool) (l : List (Deep FlatRow)). treeWalk p v fill true c (suc d) g ++ l) (sym n) (walk-everywhere d 0 sel t rest e n (omega arith) refl end))
 
   -- ---- the documents
-  pub walk-tree : (f : Forest FlatRow) → Clear p f → walked p v fill (atFirst p) (flatten 0 f) ≡ documentsWalk p v fill f
+  pub walk-tree : (f : Forest FlatRow) → Clear p f → walked p v fill (atFirst p) (preorder 0 f) ≡ documentsWalk p v fill f
   unfolding walked
-  walk-tree f clear = ap (walked p v fill (atFirst p)) (sym (append-nil (flatten 0 f))) ∙ by (namesGround (p .above)) refl clear ∙ append-nil (documentsWalk p v fill f)
+  walk-tree f clear = ap (walked p v fill (atFirst p)) (sym (append-nil (preorder 0 f))) ∙ by (namesGround (p .above)) refl clear ∙ append-nil (documentsWalk p v fill f)
     where
       openFirst : Bool → Open
       openFirst c = elim c [ true ↦ opened 0 1 (p .fills) | false ↦ opened 0 0 false ]
 
-      from : (c : Bool) → namesGround (p .above) ≡ c → walked p v fill (openFirst c) (flatten 0 f ++ []) ≡ treeWalk p v fill c (c && p .fills) 0 f ++ []
-          → walked p v fill (atFirst p) (flatten 0 f ++ []) ≡ documentsWalk p v fill f ++ []
+      from : (c : Bool) → namesGround (p .above) ≡ c → walked p v fill (openFirst c) (preorder 0 f ++ []) ≡ treeWalk p v fill c (c && p .fills) 0 f ++ []
+          → walked p v fill (atFirst p) (preorder 0 f ++ []) ≡ documentsWalk p v fill f ++ []
       from c q x =
-          ap (λ (c : Bool). walked p v fill (openFirst c) (flatten 0 f ++ [])) q ∙ x ∙ ap (λ (c : Bool). treeWalk p v fill c (c && p .fills) 0 f ++ []) (sym q)
+          ap (λ (c : Bool). walked p v fill (openFirst c) (preorder 0 f ++ [])) q ∙ x ∙ ap (λ (c : Bool). treeWalk p v fill c (c && p .fills) 0 f ++ []) (sym q)
 
-      by : (c : Bool) → namesGround (p .above) ≡ c → Clear p f → walked p v fill (atFirst p) (flatten 0 f ++ []) ≡ documentsWalk p v fill f ++ []
+      by : (c : Bool) → namesGround (p .above) ≡ c → Clear p f → walked p v fill (atFirst p) (preorder 0 f ++ []) ≡ documentsWalk p v fill f ++ []
       by true q (apart a) = from true q (walk-below 0 (p .fills) f [] (none-of (matches (p .above)) (ground-matches (p .above) q) f) tt)
       by true q (everywhere e n) = absurd (false≢true (sym (everything-ground (p .above) e) ∙ q))
       by false q (apart a) = from false q (walk-apart 0 f [] a tt)

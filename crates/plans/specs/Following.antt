@@ -5,7 +5,7 @@ use mathlib.Core.Bool.{Bool, true, false, _&&_, _||_}
 use mathlib.Core.List.{List, []}
 use Rattle.rules.specs.Bytes.{Bytes}
 use Rattle.rules.specs.Store.{Form, Row, Forest, bare, tree, Store}
-use Rattle.rules.specs.Preorder.{Deep, flatten}
+use Rattle.rules.specs.Preorder.{Deep, preorder}
 use Rattle.rules.specs.Layout.{FlatRow, rowIndex, indexed, flat}
 use Rattle.rules.specs.Lines.{ground}
 use Rattle.rules.specs.Change as change
@@ -26,7 +26,7 @@ pub record Plain (p : Plan) : Type 0 where
 module _ (form new : Form) (q : change.Plan) (p : Plan) (v : Bytes) (fill : ℕ → List (Deep FlatRow)) where
   -- below an element of this name the fillings are the same
   abbrev pub Fills : Bytes → Type 0
-  Fills owner = (d : ℕ) → fill d ≡ flatten d (indexed new owner (q .filling))
+  Fills owner = (d : ℕ) → fill d ≡ preorder d (indexed new owner (q .filling))
 
   -- at row r below row u, which is one of `above` (sel) or not, and which is w after the change
   pub record RowFollows (sel : Bool) (w u r : Row) : Type 0 where
@@ -48,4 +48,4 @@ module _ (form new : Form) (q : change.Plan) (p : Plan) (v : Bytes) (fill : ℕ 
 
 -- a plan that leaves the form as it is, with the value v, does on the documents what the call c does
 abbrev pub Does : change.Call → Store → Plan → Bytes → Type 0
-Does c s p v = documentsWalk p v (fillOf p v (flat s)) (indexed (s .form) [] (s .docs)) ≡ flatten 0 (indexed (s .form) [] (change.docsAfter c s))
+Does c s p v = documentsWalk p v (fillOf p v (flat s)) (indexed (s .form) [] (s .docs)) ≡ preorder 0 (indexed (s .form) [] (change.docsAfter c s))

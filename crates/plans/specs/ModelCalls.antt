@@ -8,7 +8,7 @@ use lib.ListN.{length, getD}
 use Rattle.rules.specs.Bytes.{Bytes, bytes}
 use Rattle.rules.specs.Model.{member}
 use Rattle.rules.specs.Store.{Form, Store}
-use Rattle.rules.specs.Preorder.{flatten}
+use Rattle.rules.specs.Preorder.{preorder}
 use Rattle.rules.specs.Layout.{indexed, flat}
 use Rattle.rules.specs.Change.{Call, nameAtIndex, formAfter, docsAfter}
 use Rattle.filling.specs.declared.Filling.{Filling}
@@ -76,4 +76,4 @@ requantifyPlan o marks cut x gain what =
 
 -- a plan with the value v does on the documents what the call c does, in the form after it
 abbrev pub DoesIn : Call → Store → Plan → Bytes → Type 0
-DoesIn c s p v = documentsWalk p v (fillOf p v (flat s)) (indexed (s .form) [] (s .docs)) ≡ flatten 0 (indexed (formAfter c (s .form)) [] (docsAfter c s))
+DoesIn c s p v = documentsWalk p v (fillOf p v (flat s)) (indexed (s .form) [] (s .docs)) ≡ preorder 0 (indexed (formAfter c (s .form)) [] (docsAfter c s))

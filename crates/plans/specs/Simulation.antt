@@ -7,7 +7,7 @@ use mathlib.Core.Bool.{Bool, true, false, _&&_, not}
 use mathlib.Core.List.{List}
 use Rattle.rules.specs.Bytes.{Bytes}
 use Rattle.rules.specs.Store.{Form, Row, Forest, bare, tree}
-use Rattle.rules.specs.Preorder.{Deep, flatten}
+use Rattle.rules.specs.Preorder.{Deep, preorder}
 use Rattle.rules.specs.Layout.{FlatRow, rowIndex, indexed}
 use Rattle.rules.specs.Change as change
 use Rattle.change_laws.proofs.RowEdits.{revalued}
@@ -21,7 +21,7 @@ use Rattle.plans.specs.Trees.{takenAt, filledAt}
 module _ (form new : Form) (q : change.Plan) (p : Plan) (v : Bytes) (fill : ℕ → List (Deep FlatRow)) where
   -- the filling of the rules below an element of a name, if it is due
   abbrev pub planted : Bool → Bytes → ℕ → List (Deep FlatRow)
-  planted owes n d = owed owes (flatten d (indexed new n (q .filling)))
+  planted owes n d = owed owes (preorder d (indexed new n (q .filling)))
 
   -- both take row r below row u, which is one of `above` (sel) or not, where p has a filling due or not
   pub record Going (sel due : Bool) (u r : Row) : Type 0 where

@@ -16,7 +16,7 @@ use Rattle.rules.specs.Decode.{quantifierOf}
 use Rattle.rules.specs.WellFormed.{isValue}
 use Rattle.rules.specs.Passing.{passes}
 use Rattle.rules.specs.Change.{changeQuantifier, changeGroupQuantifier}
-use Rattle.rules.specs.Refusal.{badText, past, foundAt, noElementAt, noGroupAt, onElement, onGroup, first, conditions}
+use Rattle.rules.specs.Refusal.{badText, pastEnd, foundAt, noElementAt, noGroupAt, onElement, onGroup, first, conditions}
 use Rattle.layout.specs.Bodies.{widthOf}
 use Rattle.change_laws.proofs.EditConditions.{element-some, group-some}
 use Rattle.change_laws.proofs.Conditions.{none-holds}
@@ -71,7 +71,7 @@ given-some {g} x = some-picked g (x .fits .found) (x .holds)
 
 module _ (bs : Bytes) (q : passes bs ≡ true) (o : ℕ) (p : List ℕ) (k : ℕ) (t : Bytes) where
   given-at : (g : Bool) (f : Option (Spot Bytes)) → foundAt (quantify (quantifierOf k)) o p (storeIn bs) ≡ f
-      → badText (storeIn bs) t ≡ false → ltb 3 k ≡ false → past o (storeIn bs .form) ≡ false → misses g f ≡ false → Given g bs o p k t
+      → badText (storeIn bs) t ≡ false → ltb 3 k ≡ false → pastEnd o (storeIn bs .form) ≡ false → misses g f ≡ false → Given g bs o p k t
   given-at g none at text code l h = absurd (false≢true (sym h ∙ misses-none g))
   given-at g (some f) at text code l h =
       let there : isDone (f .picked) ≡ false = some-picked g f h in

@@ -12,7 +12,7 @@ use lib.ListN.{length, drop, length-drop, length-map}
 use lib.Seq.{drop-drop, drop-at}
 use borrow.Author.Tests.{leb-true, eqb-true, le-leb, eq-eqb}
 use Rattle.rules.specs.Bytes.{Bytes, isNone}
-use Rattle.rules.specs.Preorder.{Deep, flatten}
+use Rattle.rules.specs.Preorder.{Deep, preorder}
 use Rattle.rules.specs.Store.{Content, empty, pcdata, complex, Attribute, AttributeSort, implied, required, fixed, Form, RowSort, element, attribute, text, Row, Forest, bare, tree, Store}
 use Rattle.rules.specs.Layout.{valueWidth, le, FlatRow, FlatStore, headerSize, definitionSize, particleSize, attributeSize, rowSize, definitionBytes}
 use Rattle.rules.specs.Layout.{particleBytes, attributeBytes, rowBytes, each, entry, flatBytes, kindCode, sortCode, rowCode, contentParticles, flatDefinition}
@@ -424,11 +424,11 @@ row-laid w form owner depth r h = by (r .sort) refl
           text = λ e. rw q refl;
         }
 
-store-rows : (w : ℕ) (form : Form) (owner : Bytes) (depth : ℕ) (f : Forest Row) → EveryRow (λ r below. laidRow w r ≡ true) f → Every (LaidRow w) (flatten depth (indexed form owner f))
+store-rows : (w : ℕ) (form : Form) (owner : Bytes) (depth : ℕ) (f : Forest Row) → EveryRow (λ r below. laidRow w r ≡ true) f → Every (LaidRow w) (preorder depth (indexed form owner f))
 store-rows w form owner depth bare h = tt
 store-rows w form owner depth (tree r b t) h = (
   row-laid w form owner depth r (h .0),
-  every-append (LaidRow w) (flatten (suc depth) (indexed form (r .name) b)) (flatten depth (indexed form owner t))
+  every-append (LaidRow w) (preorder (suc depth) (indexed form (r .name) b)) (preorder depth (indexed form owner t))
       (store-rows w form (r .name) (suc depth) b (h .1)) (store-rows w form owner depth t (h .2)),
 )
 

@@ -14,7 +14,7 @@ use Rattle.rules.specs.Layout.{particleSize}
 use Rattle.rules.specs.Decode.{readParticle}
 use Rattle.rules.specs.Passing.{passes}
 use Rattle.rules.specs.Change.{removeElement, formAfter}
-use Rattle.rules.specs.Refusal.{past, foundAt, noElementAt, onElement, first, conditions}
+use Rattle.rules.specs.Refusal.{pastEnd, foundAt, noElementAt, onElement, first, conditions}
 use Rattle.rules.specs.Outcome.{outcome, Answers}
 use Rattle.change_laws.proofs.EditConditions.{element-some}
 use Rattle.change_laws.proofs.Conditions.{none-holds}
@@ -46,7 +46,7 @@ module _ (bs : Bytes) (q : passes bs ≡ true) (o : ℕ) (p : List ℕ) where
   unfolding conditions
   remove-fits e = let (index, (place, more)) = none-holds (removeElement o p) (storeIn bs) e in by (foundAt remove o p (storeIn bs)) refl index place
     where
-      by : (f : Option (Spot Bytes)) → foundAt remove o p (storeIn bs) ≡ f → past o (storeIn bs .form) ≡ false → noElementAt f ≡ false → Element bs o p remove
+      by : (f : Option (Spot Bytes)) → foundAt remove o p (storeIn bs) ≡ f → pastEnd o (storeIn bs .form) ≡ false → noElementAt f ≡ false → Element bs o p remove
       by none at i h = absurd (false≢true (sym h))
       by (some f) at i h = there (f .picked) refl
         where

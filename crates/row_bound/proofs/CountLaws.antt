@@ -14,7 +14,7 @@ use Rattle.layout.proofs.RowLaws.{size-more}
 use Rattle.row_walk.specs.declared.Which.{Which}
 use Rattle.row_walk.specs.declared.Head.{Head}
 use Rattle.row_walk.specs.Walk.{matches, namesGround}
-use Rattle.row_walk.specs.Step.{rowOfHead, bare}
+use Rattle.row_walk.specs.Step.{rowOfHead, valueless}
 use Rattle.walk_writer.proofs.StepLaws.{matches-any}
 use Rattle.walk_writer.proofs.WalkLaws.{rows-step}
 use Rattle.row_bound.specs.Bound.{onlyIf, matchingIn, placesIn}
@@ -52,7 +52,7 @@ module _ {w : ℕ} {which : Which} {count : ℕ} {rows t : Bytes} {m found : ℕ
   pub counting-first : 0 < m → rowSize w ≤ length t
   counting-first h = omega (arith, g .size, size-more (rowSize w) m (λ e. omega arith))
 
-  pub counting-step : 0 < m → (k : ℕ) → k ≡ rowSize w → (h : Head) → rowOfHead h (readRow (take k t) .row .value) ≡ readRow (take k t) → {b : Bool} → b ≡ matches which (bare h .row)
+  pub counting-step : 0 < m → (k : ℕ) → k ≡ rowSize w → (h : Head) → rowOfHead h (readRow (take k t) .row .value) ≡ readRow (take k t) → {b : Bool} → b ≡ matches which (valueless h .row)
       → {n : ℕ} → n ≡ found + onlyIf b 1 → Counting w which count rows (take (length t - k) (drop k t)) (m - 1) n
   counting-step o k ek h read {b} eb {n} en = rw (tail-seen t k, ek) (went (rw ek at read))
     where

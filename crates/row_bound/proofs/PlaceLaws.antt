@@ -16,7 +16,7 @@ use Rattle.row_writer.proofs.WrittenLaws.{new-append}
 use Rattle.row_writer.proofs.BlockLaws.{Old}
 use Rattle.row_walk.specs.declared.Plan.{Plan}
 use Rattle.row_walk.specs.declared.Open.{Open}
-use Rattle.row_walk.specs.Walk.{keptRow, gone, closes, closed, isTaken, isFilled, owed, rowDepth, emitted, nextOpen, walked}
+use Rattle.row_walk.specs.Walk.{keptRow, isBelowTaken, closes, closed, isTaken, isFilled, owed, rowDepth, emitted, nextOpen, walked}
 
 -- for each new row of ys, xs has F new ones; the others are as many
 pub record Times (F : ℕ) (xs ys : List (Deep FlatRow)) : Type 0 where
@@ -62,7 +62,7 @@ module _ (p : Plan) (v : Bytes) (fill unit : ℕ → List (Deep FlatRow)) (F : �
   pub times-walked : (o : Open) (xs : List (Deep FlatRow)) → Every Old xs → Times F (walked p v fill o xs) (walked p v unit o xs)
   unfolding walked nextOpen
   times-walked o [] h = times-owed (o .due) (rowDepth o)
-  times-walked o (x ∷ xs) h = by (gone o x) (times-walked o xs (h .1)) (times-walked (nextOpen p v fill (closed o x) x) xs (h .1))
+  times-walked o (x ∷ xs) h = by (isBelowTaken o x) (times-walked o xs (h .1)) (times-walked (nextOpen p v fill (closed o x) x) xs (h .1))
     where
       by : (g : Bool) → Times F (walked p v fill o xs) (walked p v unit o xs)
           → Times F (walked p v fill (nextOpen p v fill (closed o x) x) xs) (walked p v unit (nextOpen p v unit (closed o x) x) xs)

@@ -11,7 +11,7 @@ use Rattle.rules.specs.Layout.{FlatRow}
 use Rattle.rules.proofs.BooleanLaws.{Every}
 use Rattle.row_walk.specs.declared.Plan.{Plan}
 use Rattle.row_walk.specs.declared.Open.{Open}
-use Rattle.row_walk.specs.Walk.{matches, isLater, spared, keptRow, gone, closes, closed, isBelow, isTaken, isFilled, taken, kept, owed, rowDepth, emitted, nextOpen, walked}
+use Rattle.row_walk.specs.Walk.{matches, isLater, spared, keptRow, isBelowTaken, closes, closed, isBelow, isTaken, isFilled, afterTaken, afterKept, owed, rowDepth, emitted, nextOpen, walked}
 use Rattle.walk_writer.specs.Step.{stepRows, stepOpen}
 use Rattle.walk_writer.proofs.WalkLaws.{walked-cons, walked-none}
 use Rattle.row_bound.specs.Bound.{onlyIf}
@@ -49,7 +49,7 @@ module _ (p : Plan) (v : Bytes) (fill : ℕ → List (Deep FlatRow)) (size : Lis
   size-owed false d = omega (arith, none)
 
   module _ (o : Open) (x : Deep FlatRow) where
-    due-kept : onlyIf (isFilled p o x) F + onlyIf (kept p o x .due) F ≤ onlyIf (o .due) F + onlyIf (matches (p .above) (x .row)) G
+    due-kept : onlyIf (isFilled p o x) F + onlyIf (afterKept p o x .due) F ≤ onlyIf (o .due) F + onlyIf (matches (p .above) (x .row)) G
     due-kept = by (matches (p .above) (x .row))
       where
         later : Bool
@@ -73,7 +73,7 @@ module _ (p : Plan) (v : Bytes) (fill : ℕ → List (Deep FlatRow)) (size : Lis
         where
           by : (t : Bool)
               → size (elim t as (λ z. List (Deep FlatRow)) [ true ↦ [] | false ↦ owed (isFilled p o x) (fill (x .depth)) ++ keptRow p v x ∷ [] ])
-              + onlyIf (elim t as (λ z. Open) [ true ↦ taken o x | false ↦ kept p o x ] .due) F
+              + onlyIf (elim t as (λ z. Open) [ true ↦ afterTaken o x | false ↦ afterKept p o x ] .due) F
               ≤ onlyIf (o .due) F + (each + onlyIf (matches (p .above) (x .row)) G)
           by true = omega (arith, none)
           by false = omega (arith, plus (owed (isFilled p o x) (fill (x .depth))) (keptRow p v x ∷ []), size-owed (isFilled p o x) (x .depth), one, due-kept)
@@ -81,7 +81,7 @@ module _ (p : Plan) (v : Bytes) (fill : ℕ → List (Deep FlatRow)) (size : Lis
   size-step : (o : Open) (x : Deep FlatRow) → size (keptRow p v x ∷ []) ≤ each
       → size (stepRows p v fill o x) + onlyIf (stepOpen p v fill o x .due) F ≤ onlyIf (o .due) F + (each + onlyIf (matches (p .above) (x .row)) G)
   unfolding stepRows stepOpen
-  size-step o x one = by (gone o x)
+  size-step o x one = by (isBelowTaken o x)
     where
       by : (g : Bool)
           → size (elim g as (λ z. List (Deep FlatRow)) [ true ↦ [] | false ↦ owed (closes o x && o .due) (fill (rowDepth o)) ++ emitted p v fill (closed o x) x ])

@@ -12,7 +12,7 @@ ghost use Rattle.rules.specs.Layout.{rowSize};
 ghost use Rattle.rules.specs.Decode.{readRow, readMany};
 ghost use Rattle.layout.specs.Bodies.{Width};
 ghost use Rattle.row_walk.specs.Walk.{matches, namesGround, walked, atFirst};
-ghost use Rattle.row_walk.specs.Step.{bare};
+ghost use Rattle.row_walk.specs.Step.{valueless};
 ghost use Rattle.walk_writer.specs.Step.{fillWith, planFilling, Ready, WalkRows};
 ghost use Rattle.filling.specs.Parts.{Indexed};
 ghost use Rattle.row_bound.specs.Bound.{onlyIf, matchingIn, placesIn, countedTo, Bounds};
@@ -34,7 +34,7 @@ fn more(n: usize, b: bool) -> usize
 
 // Whether a row is one of them.
 fn matches(w: Which, h: Head) -> bool
-    ensures { λ r. ⌜ r ≡ matches w (bare h .row) ⌝ }
+    ensures { λ r. ⌜ r ≡ matches w (valueless h .row) ⌝ }
 {
     match w {
         Which::Nothing => false,

@@ -10,9 +10,9 @@ use lib.ListN.{length, getD, set, length-set}
 use lib.Seq.{getD-set-same, getD-set-other}
 use borrow.Author.Tests.{lt-ltb, le-leb, ltb-true, leb-true}
 use Rattle.rules.specs.Store.{Forest, heads}
-use Rattle.rules.specs.Preorder.{Deep, flatten, build}
+use Rattle.rules.specs.Preorder.{Deep, preorder, build}
 use Rattle.rules.proofs.Words.{and-both, and-split}
-use Rattle.rules.proofs.PreorderLaws.{rising, build-flatten, flatten-build, build-less, build-more, flatten-rises, build-same}
+use Rattle.rules.proofs.PreorderLaws.{rising, build-preorder, preorder-build, build-less, build-more, preorder-rises, build-same}
 use Rattle.next_row.specs.Automaton.{Automaton}
 use Rattle.row_step.specs.Machine.{rowsRun, Fine, levelsEnd, opened, machine}
 use Rattle.form_table.proofs.Numbers.{Side, below, at, above, side, every→, every←}
@@ -162,15 +162,15 @@ module _ {A S : Type 0} (m : Automaton A S) (none : S) where
     -- THE PASS: it accepts exactly the rows of a forest whose first rows may
     -- stand beside one another and in which every row is fine
     pub accepted : (xs : List (Deep A)) (l : List S) → length l ≡ suc b → Within b xs
-        → (machine m none l 1 xs ≡ true) ↔ ((f : Forest A) × (flatten 0 f ≡ xs) × (rowsRun m (getD l 0 none) (heads f) ≡ true) × Fine m f)
+        → (machine m none l 1 xs ≡ true) ↔ ((f : Forest A) × (preorder 0 f ≡ xs) × (rowsRun m (getD l 0 none) (heads f) ≡ true) × Fine m f)
     accepted xs l h w = (
       λ e.
           let (r, o) = machine→ xs l 0 h w e in
-          (build xs 0, flatten-build xs r, o 0 (omega arith) .row, o 0 (omega arith) .fine),
+          (build xs 0, preorder-build xs r, o 0 (omega arith) .row, o 0 (omega arith) .fine),
       λ g.
-          machine← xs l 0 h w (subst (λ (u : List (Deep A)). rising 0 u ≡ true) (g .1) (flatten-rises (g .0)))
+          machine← xs l 0 h w (subst (λ (u : List (Deep A)). rising 0 u ≡ true) (g .1) (preorder-rises (g .0)))
           (λ k q.
           let z : k ≡ 0 = omega arith in
-          let e : build xs 0 ≡ g .0 = ap (λ (u : List (Deep A)). build u 0) (sym (g .1)) ∙ build-flatten (g .0) in
+          let e : build xs 0 ≡ g .0 = ap (λ (u : List (Deep A)). build u 0) (sym (g .1)) ∙ build-preorder (g .0) in
           record { row = rw (z, e) (g .2); fine = rw (z, e) (g .3) }),
     )

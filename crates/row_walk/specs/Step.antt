@@ -10,14 +10,14 @@ use Rattle.row_walk.specs.declared.Plan.{Plan}
 use Rattle.row_walk.specs.declared.Shift.{Shift}
 use Rattle.row_walk.specs.declared.Open.{Open}
 use Rattle.row_walk.specs.declared.Head.{Head}
-use Rattle.row_walk.specs.Walk.{matches, isLater, movedIndex, gone, closes, closed, isBelow, isTaken}
+use Rattle.row_walk.specs.Walk.{matches, isLater, movedIndex, isBelowTaken, closes, closed, isBelow, isTaken}
 
 -- a row with what was read of it, and a value
 abbrev pub rowOfHead : Head → Bytes → Deep FlatRow
 rowOfHead h v = record { depth = h .depth; row = record { sort = h .sort; index = h .index; serial = h .serial; value = v } }
 
-abbrev pub bare : Head → Deep FlatRow
-bare h = rowOfHead h []
+abbrev pub valueless : Head → Deep FlatRow
+valueless h = rowOfHead h []
 
 -- what is due stays due after a row that opens nothing
 abbrev pub staysDue : Plan → Open → Deep FlatRow → Bool
@@ -40,7 +40,7 @@ endsDue p o x = (o .due && isBelow o x) && isLater (p .marks) (p .later) (x .row
 -- not taken, and it keeps its index and its value
 unfoldable pub isPlain : Plan → Open → Deep FlatRow → Bool
 isPlain p o x =
-    (not (gone o x) && not ((closes o x && o .due) || endsDue p (closed o x) x))
+    (not (isBelowTaken o x) && not ((closes o x && o .due) || endsDue p (closed o x) x))
     && (not (isTaken p (closed o x) x) && (eqb (movedIndex p (x .row)) (x .row .index) && not (eqb (x .row .serial) (p .set))))
 
 -- ---- how large the numbers are

@@ -72,8 +72,8 @@ keptRow p v x = record { depth = x .depth; row = record { sort = x .row .sort; i
 
 -- ---- what a row meets
 -- it stands below a row taken
-abbrev pub gone : Open → Deep FlatRow → Bool
-gone o x = ltb 0 (o .taking) && leb (o .taking) (x .depth)
+abbrev pub isBelowTaken : Open → Deep FlatRow → Bool
+isBelowTaken o x = ltb 0 (o .taking) && leb (o .taking) (x .depth)
 
 -- it is not below the open row any more
 abbrev pub closes : Open → Deep FlatRow → Bool
@@ -94,11 +94,11 @@ abbrev pub isFilled : Plan → Open → Deep FlatRow → Bool
 isFilled p o x = (o .due && isBelow o x) && (isLater (p .marks) (p .later) (x .row) && not (spared p (x .row)))
 
 -- ---- what is open after a row that is taken, and after one that is kept: the first row that is later ends what is due
-abbrev pub taken : Open → Deep FlatRow → Open
-taken o x = record { taking = suc (x .depth); below = o .below; due = o .due }
+abbrev pub afterTaken : Open → Deep FlatRow → Open
+afterTaken o x = record { taking = suc (x .depth); below = o .below; due = o .due }
 
-abbrev pub kept : Plan → Open → Deep FlatRow → Open
-kept p o x =
+abbrev pub afterKept : Plan → Open → Deep FlatRow → Open
+afterKept p o x =
     elim (matches (p .above) (x .row)) [
       | true ↦ record { taking = 0; below = suc (suc (x .depth)); due = p .fills }
       | false ↦ record { taking = 0; below = o .below; due = o .due && not (isBelow o x && isLater (p .marks) (p .later) (x .row)) }
@@ -118,12 +118,12 @@ module _ (p : Plan) (v : Bytes) (fill : ℕ → List (Deep FlatRow)) where
   emitted o x = elim (isTaken p o x) [ true ↦ [] | false ↦ owed (isFilled p o x) (fill (x .depth)) ++ keptRow p v x ∷ [] ]
 
   unfoldable pub nextOpen : Open → Deep FlatRow → Open
-  nextOpen o x = elim (isTaken p o x) [ true ↦ taken o x | false ↦ kept p o x ]
+  nextOpen o x = elim (isTaken p o x) [ true ↦ afterTaken o x | false ↦ afterKept p o x ]
 
   unfoldable pub walked : Open → List (Deep FlatRow) → List (Deep FlatRow)
   walked o [] = owed (o .due) (fill (rowDepth o))
   walked o (x ∷ xs) =
-      elim (gone o x) [
+      elim (isBelowTaken o x) [
         | true ↦ walked o xs
         | false ↦ owed (closes o x && o .due) (fill (rowDepth o)) ++ (emitted (closed o x) x ++ walked (nextOpen (closed o x) x) xs)
       ]

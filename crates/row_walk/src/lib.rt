@@ -4,9 +4,9 @@ use filling::Filling;
 ghost use mathlib.Core.Path.{_≡_};
 ghost use mathlib.Core.List.{[]};
 ghost use Prim.Native.Nat.{_+_, _≤_};
-ghost use Rattle.row_walk.specs.Walk.{matches, isLater, spared, shifted, movedIndex, gone, closes, closed, isBelow, isTaken, isFilled, taken, atFirst};
+ghost use Rattle.row_walk.specs.Walk.{matches, isLater, spared, shifted, movedIndex, isBelowTaken, closes, closed, isBelow, isTaken, isFilled, afterTaken, atFirst};
 ghost use Rattle.row_walk.specs.Lent.{whichIn, planIn};
-ghost use Rattle.row_walk.specs.Step.{bare, keptWith, endsDue, isPlain, Moves, Fair};
+ghost use Rattle.row_walk.specs.Step.{valueless, keptWith, endsDue, isPlain, Moves, Fair};
 
 /// Some rows: none; every row, and what stands above the documents; that alone; the elements of a definition; the rows
 /// of an attribute; the element with a serial.
@@ -77,7 +77,7 @@ pub struct Head {
 
 // Whether a row is one of those of a variant with a number.
 fn matches(variant: usize, number: usize, h: Head) -> bool
-    ensures { λ r. ⌜ r ≡ matches (whichIn variant number) (bare h .row) ⌝ }
+    ensures { λ r. ⌜ r ≡ matches (whichIn variant number) (valueless h .row) ⌝ }
 {
     match variant {
         0 => false,
@@ -91,7 +91,7 @@ fn matches(variant: usize, number: usize, h: Head) -> bool
 
 /// Whether a filling comes before a row.
 pub fn is_later(p: &[usize; 19], marks: &[u8], h: Head) -> bool
-    ensures { λ r. ⌜ r ≡ isLater (now (marks .entry)) (planIn (now (p .entry)) [] .later) (bare h .row) ⌝ }
+    ensures { λ r. ⌜ r ≡ isLater (now (marks .entry)) (planIn (now (p .entry)) [] .later) (valueless h .row) ⌝ }
 {
     match p[4] {
         0 => false,
@@ -103,7 +103,7 @@ pub fn is_later(p: &[usize; 19], marks: &[u8], h: Head) -> bool
 
 // Whether a row is an element at the place, before which no filling comes.
 fn spared(p: &[usize; 19], marks: &[u8], h: Head) -> bool
-    ensures { λ r. ⌜ r ≡ spared (planIn (now (p .entry)) (now (marks .entry))) (bare h .row) ⌝ }
+    ensures { λ r. ⌜ r ≡ spared (planIn (now (p .entry)) (now (marks .entry))) (valueless h .row) ⌝ }
 {
     (p[8] == 1) & ((h.sort == 1) & (codec::byte(marks, h.index) == 2))
 }
@@ -123,7 +123,7 @@ fn shifted(s: Shift, i: usize) -> usize
 /// The index of a row after the change.
 pub fn moved_index(p: &[usize; 19], h: Head) -> usize
     requires { ⌜ Moves (planIn (now p) [] .definitions) × Moves (planIn (now p) [] .attributes) × Fair h ⌝ }
-    ensures { λ r. ⌜ (r ≡ movedIndex (planIn (now (p .entry)) []) (bare h .row)) × (r ≤ 2000) ⌝ }
+    ensures { λ r. ⌜ (r ≡ movedIndex (planIn (now (p .entry)) []) (valueless h .row)) × (r ≤ 2000) ⌝ }
 {
     if h.sort == 1 {
         let definitions = Shift {
@@ -148,7 +148,7 @@ pub fn moved_index(p: &[usize; 19], h: Head) -> usize
 
 /// Whether a row stands below a row taken.
 pub fn gone(o: Open, h: Head) -> bool
-    ensures { λ r. ⌜ r ≡ gone o (bare h) ⌝ }
+    ensures { λ r. ⌜ r ≡ isBelowTaken o (valueless h) ⌝ }
 {
     (0 < o.taking) & (o.taking <= h.depth)
 }
@@ -156,7 +156,7 @@ pub fn gone(o: Open, h: Head) -> bool
 /// Whether a row is not below the open row any more.
 pub fn closes(o: Open, h: Head) -> bool
     requires { ⌜ Fair h ⌝ }
-    ensures { λ r. ⌜ r ≡ closes o (bare h) ⌝ }
+    ensures { λ r. ⌜ r ≡ closes o (valueless h) ⌝ }
 {
     h.depth + 1 < o.below
 }
@@ -164,7 +164,7 @@ pub fn closes(o: Open, h: Head) -> bool
 /// What is open once a row has closed what it closes.
 pub fn closed(o: Open, h: Head) -> Open
     requires { ⌜ Fair h ⌝ }
-    ensures { λ r. ⌜ r ≡ closed o (bare h) ⌝ }
+    ensures { λ r. ⌜ r ≡ closed o (valueless h) ⌝ }
 {
     if closes(o, h) {
         return Open {
@@ -183,7 +183,7 @@ pub fn closed(o: Open, h: Head) -> Open
 /// Whether a row stands right below the open row.
 pub fn is_below(o: Open, h: Head) -> bool
     requires { ⌜ Fair h ⌝ }
-    ensures { λ r. ⌜ r ≡ isBelow o (bare h) ⌝ }
+    ensures { λ r. ⌜ r ≡ isBelow o (valueless h) ⌝ }
 {
     o.below == h.depth + 1
 }
@@ -191,7 +191,7 @@ pub fn is_below(o: Open, h: Head) -> bool
 /// Whether a row is taken.
 pub fn is_taken(p: &[usize; 19], o: Open, h: Head) -> bool
     requires { ⌜ Fair h ⌝ }
-    ensures { λ r. ⌜ r ≡ isTaken (planIn (now (p .entry)) []) o (bare h) ⌝ }
+    ensures { λ r. ⌜ r ≡ isTaken (planIn (now (p .entry)) []) o (valueless h) ⌝ }
 {
     let below = (p[0] == 1) | is_below(o, h);
     (below & matches(p[2], p[3], h)) & !((p[7] == 1) & o.due)
@@ -200,7 +200,7 @@ pub fn is_taken(p: &[usize; 19], o: Open, h: Head) -> bool
 /// Whether a filling comes right before a row.
 pub fn is_filled(p: &[usize; 19], marks: &[u8], o: Open, h: Head) -> bool
     requires { ⌜ Fair h ⌝ }
-    ensures { λ r. ⌜ r ≡ isFilled (planIn (now (p .entry)) (now (marks .entry))) o (bare h) ⌝ }
+    ensures { λ r. ⌜ r ≡ isFilled (planIn (now (p .entry)) (now (marks .entry))) o (valueless h) ⌝ }
 {
     (o.due & is_below(o, h)) & (is_later(p, marks, h) & !spared(p, marks, h))
 }
@@ -208,7 +208,7 @@ pub fn is_filled(p: &[usize; 19], marks: &[u8], o: Open, h: Head) -> bool
 // Whether what is due does not stay due after a row right below the open row.
 fn ends_due(p: &[usize; 19], marks: &[u8], o: Open, h: Head) -> bool
     requires { ⌜ Fair h ⌝ }
-    ensures { λ r. ⌜ r ≡ endsDue (planIn (now (p .entry)) (now (marks .entry))) o (bare h) ⌝ }
+    ensures { λ r. ⌜ r ≡ endsDue (planIn (now (p .entry)) (now (marks .entry))) o (valueless h) ⌝ }
 {
     if o.due & is_below(o, h) {
         return is_later(p, marks, h);
@@ -219,7 +219,7 @@ fn ends_due(p: &[usize; 19], marks: &[u8], o: Open, h: Head) -> bool
 /// Whether a row stays as it is, and nothing comes before it.
 pub fn is_plain(p: &[usize; 19], marks: &[u8], o: Open, h: Head) -> bool
     requires { ⌜ Moves (planIn (now p) [] .definitions) × Moves (planIn (now p) [] .attributes) × Fair h ⌝ }
-    ensures { λ r. ⌜ r ≡ isPlain (planIn (now (p .entry)) (now (marks .entry))) o (bare h) ⌝ }
+    ensures { λ r. ⌜ r ≡ isPlain (planIn (now (p .entry)) (now (marks .entry))) o (valueless h) ⌝ }
 {
     let q = closed(o, h);
     let due = (closes(o, h) & o.due) | ends_due(p, marks, q, h);
@@ -231,7 +231,7 @@ pub fn is_plain(p: &[usize; 19], marks: &[u8], o: Open, h: Head) -> bool
 
 pub fn taken(o: Open, h: Head) -> Open
     requires { ⌜ Fair h ⌝ }
-    ensures { λ r. ⌜ r ≡ taken o (bare h) ⌝ }
+    ensures { λ r. ⌜ r ≡ afterTaken o (valueless h) ⌝ }
 {
     Open {
         taking: h.depth + 1,
@@ -243,7 +243,7 @@ pub fn taken(o: Open, h: Head) -> Open
 /// `due`: what is due stays due after the row.
 pub fn kept(p: &[usize; 19], o: Open, h: Head, due: bool) -> Open
     requires { ⌜ Fair h ⌝ }
-    ensures { λ r. ⌜ r ≡ keptWith (planIn (now (p .entry)) []) due o (bare h) ⌝ }
+    ensures { λ r. ⌜ r ≡ keptWith (planIn (now (p .entry)) []) due o (valueless h) ⌝ }
 {
     if matches(p[0], p[1], h) {
         return Open {

@@ -9,7 +9,7 @@ use Rattle.rules.specs.declared.Quantifier.{Quantifier}
 use Rattle.rules.specs.declared.Quantifier.the-variants.{None, Qmark, Star, Plus}
 use Rattle.rules.specs.Language.{Language, Then, Times, Repeated}
 use Rattle.rules.specs.declared.Facts.{Facts}
-use Rattle.rules.specs.Automaton.{quantify}
+use Rattle.rules.specs.Automaton.{quantifyFacts}
 use Rattle.rules.proofs.Auto.{Auto, auto-map}
 use Rattle.rules.proofs.Words.{here, there, then-nil, then-cons, or-left, or-right, or-cases, and-both, and-split}
 
@@ -50,7 +50,7 @@ module _ {A : Type 0} {L : Language A} {S : A → Type 0} {F : A → A → Facts
   maybe-cons y w (suc zero, h, t) = one→ (y ∷ w) t
   maybe-cons y w (suc (suc n), h, t) = absurd (omega arith)
 
-  auto-maybe : Auto (Repeated Qmark L) S (λ x y. quantify Qmark (F x y))
+  auto-maybe : Auto (Repeated Qmark L) S (λ x y. quantifyFacts Qmark (F x y))
   auto-maybe =
       record {
         rest = a .rest;
@@ -105,7 +105,7 @@ module _ {A : Type 0} {L : Language A} {S : A → Type 0} {F : A → A → Facts
   many-in-rest : (x : A) (w : List A) → After x w → S x
   many-in-rest x w (u, v, e, k, m) = a .in-rest x u k
 
-  auto-star : Auto (Repeated Star L) S (λ x y. quantify Star (F x y))
+  auto-star : Auto (Repeated Star L) S (λ x y. quantifyFacts Star (F x y))
   auto-star =
       record {
         rest = After;
@@ -126,7 +126,7 @@ module _ {A : Type 0} {L : Language A} {S : A → Type 0} {F : A → A → Facts
   plus-nil (zero, h, t) = absurd (omega arith)
   plus-nil (suc n, h, t) = then-nil t .0
 
-  auto-plus : Auto (Repeated Plus L) S (λ x y. quantify Plus (F x y))
+  auto-plus : Auto (Repeated Plus L) S (λ x y. quantifyFacts Plus (F x y))
   auto-plus =
       record {
         rest = After;
@@ -143,7 +143,7 @@ module _ {A : Type 0} {L : Language A} {S : A → Type 0} {F : A → A → Facts
         in-rest = many-in-rest;
       }
 
-  pub auto-repeat : (q : Quantifier) → Auto (Repeated q L) S (λ x y. quantify q (F x y))
+  pub auto-repeat : (q : Quantifier) → Auto (Repeated q L) S (λ x y. quantifyFacts q (F x y))
   auto-repeat None = auto-once
   auto-repeat Qmark = auto-maybe
   auto-repeat Star = auto-star

@@ -21,7 +21,7 @@ use Rattle.rules.specs.Model.{Members, done, el, group, names, distinct,
 use Rattle.rules.specs.Automaton.{accepts}
 use Rattle.rules.specs.Store.{Content, empty, pcdata, complex, AttributeSort, implied, required, fixed, Attribute, Definition, Form, RowSort, element}
 use Rattle.rules.specs.Store.{attribute, text, Row, Forest, bare, tree, Store, modelOf, members, heads}
-use Rattle.rules.specs.Preorder.{Deep, flatten, build}
+use Rattle.rules.specs.Preorder.{Deep, preorder, build}
 use Rattle.rules.specs.Layout.{baseVersion, valueWidth, nameWidth, FlatParticle, FlatAttribute, headerSize, definitionSize, particleSize, attributeSize}
 use Rattle.rules.specs.Layout.{rowSize, indexOf, indexIn, attributeIndex, quantifierCode, kindCode, sortCode, rowCode, particles, contentParticles}
 use Rattle.rules.specs.Layout.{flatDefinition, allParticles, ownAttributes, allAttributes, rowIndex, indexed, flat, encode}
@@ -35,7 +35,7 @@ use Rattle.rules.proofs.Words.{or-left, or-right, and-split, and-both}
 use Rattle.rules.proofs.Children.{Sound, sound}
 use Rattle.rules.proofs.Sound.{sound-test}
 use Rattle.rules.proofs.BooleanLaws.{Every, every-of, every-map, every-append, all-left, all-right, none-nil, guard-true, guard-some}
-use Rattle.rules.proofs.PreorderLaws.{build-flatten}
+use Rattle.rules.proofs.PreorderLaws.{build-preorder}
 use Rattle.rules.proofs.LayoutLaws.{unle-le, GoodFlatDefinition, GoodFlatAttribute, GoodFlatRow, GoodFlat, length-flatBytes, sized-bytes, read-bytes}
 
 -- ---- names by index
@@ -73,7 +73,7 @@ module _ (form : Form) where
   read-content : (c : Content) → all (known form) (names (modelOf c)) ≡ true → contentOf (kindCode c) (readMembers (map definitionName form) (build (contentParticles form c) 0)) ≡ c
   read-content empty h = refl
   read-content pcdata h = refl
-  read-content (complex ms) h = ap complex (ap (readMembers (map definitionName form)) (build-flatten (particles form ms)) ∙ read-members ms h)
+  read-content (complex ms) h = ap complex (ap (readMembers (map definitionName form)) (build-preorder (particles form ms)) ∙ read-members ms h)
 
 -- ---- rows
 -- the attributes' names in the order of the table
@@ -161,7 +161,7 @@ unflat-flat s g n =
       version = s .version;
       next = s .next;
       form = read-form (s .form) (s .form) 0 (allAttributes 0 (s .form)) (λ k l. refl) g i;
-      docs = (ap (readRows (map definitionName (s .form)) (attributeNames (s .form))) (build-flatten (indexed (s .form) [] (s .docs))) ∙ read-rows (s .form) [] (s .docs) n) i;
+      docs = (ap (readRows (map definitionName (s .form)) (attributeNames (s .form))) (build-preorder (indexed (s .form) [] (s .docs))) ∙ read-rows (s .form) [] (s .docs) n) i;
     })
 
 -- ---- tests, row by row
@@ -451,13 +451,13 @@ module _ (w next : ℕ) (form : Form) (known-definitions : length form ≤ 64) (
       by text = omega arith
 
   good-rows : (owner : Bytes) (depth : ℕ) (f : Forest Row) → EveryRow (λ r below. laidRow w r ≡ true) f → all (λ k. leb 1 k && ltb k next) (serials f) ≡ true
-      → Every (GoodFlatRow w) (flatten depth (indexed form owner f))
+      → Every (GoodFlatRow w) (preorder depth (indexed form owner f))
   good-rows owner depth bare h n = tt
   good-rows owner depth (tree r b t) h n =
       let (n₀, n₁) = and-split (leb 1 (r .serial) && ltb (r .serial) next) _ n in
       let small : r .serial < next = ltb-true (r .serial) next (and-right (leb 1 (r .serial)) (ltb (r .serial) next) n₀) in (
         record { index = row-bound owner r; serial = omega arith; value = laid-value w r (h .0) },
-        every-append (GoodFlatRow w) (flatten (suc depth) (indexed form (r .name) b)) (flatten depth (indexed form owner t))
+        every-append (GoodFlatRow w) (preorder (suc depth) (indexed form (r .name) b)) (preorder depth (indexed form owner t))
             (good-rows (r .name) (suc depth) b (h .1) (all-left (λ k. leb 1 k && ltb k next) (serials b) (serials t) n₁))
             (good-rows owner depth t (h .2) (all-right (λ k. leb 1 k && ltb k next) (serials b) (serials t) n₁)),
       )

@@ -19,7 +19,7 @@ use Rattle.rules.specs.Language.{Conforms}
 use Rattle.rules.specs.Automaton.{accepts}
 use Rattle.rules.specs.Store.{Content, empty, pcdata, complex, AttributeSort, implied, required, fixed, Attribute, Definition, Form, RowSort, element}
 use Rattle.rules.specs.Store.{attribute, text, Row, Forest, bare, tree, Store, modelOf, members, heads}
-use Rattle.rules.specs.Preorder.{Deep, flatten}
+use Rattle.rules.specs.Preorder.{Deep, preorder}
 use Rattle.rules.specs.Layout.{valueWidth, nameWidth, FlatParticle, quantifierCode, kindCode, sortCode, rowCode, particles, contentParticles}
 use Rattle.rules.specs.Layout.{flatDefinition, allParticles, ownAttributes, allAttributes, indexed, flat, encode, howMany, groupCode, FlatRow}
 use Rattle.rules.specs.WellFormed.{startsName, inName, isName, storedName, isValue, withinCeilings, lookup, known, isFill, isAttributeOf, wellFormed}
@@ -108,20 +108,20 @@ pub record LaidParticle (p : Deep FlatParticle) : Type 0 where
 
 -- a group's members are particles as well, and so fewer than all
 module _ (form : Form) (few : length form ≤ 64) where
-  many-bound : (depth : ℕ) (ms : Members Bytes) → howMany ms ≤ length (flatten depth (particles form ms))
+  many-bound : (depth : ℕ) (ms : Members Bytes) → howMany ms ≤ length (preorder depth (particles form ms))
   many-bound depth done = omega arith
   many-bound depth (el q n rest) = omega (arith, many-bound depth rest)
-  many-bound depth (group q k ms rest) = omega (arith, many-bound depth rest, length-append (flatten (suc depth) (particles form ms)) (flatten depth (particles form rest)))
+  many-bound depth (group q k ms rest) = omega (arith, many-bound depth rest, length-append (preorder (suc depth) (particles form ms)) (preorder depth (particles form rest)))
 
-  laid-members : (depth : ℕ) (ms : Members Bytes) → length (flatten depth (particles form ms)) ≤ 256 → Every LaidParticle (flatten depth (particles form ms))
+  laid-members : (depth : ℕ) (ms : Members Bytes) → length (preorder depth (particles form ms)) ≤ 256 → Every LaidParticle (preorder depth (particles form ms))
   laid-members depth done h = tt
   laid-members depth (el q n rest) h = (record { sort = lit< tt; quantifier = quantifier-small q; index = omega (arith, index-bound n form) }, laid-members depth rest (omega arith))
   laid-members depth (group q k ms rest) h =
-      let e : length (flatten (suc depth) (particles form ms) ++ flatten depth (particles form rest))
-      ≡ length (flatten (suc depth) (particles form ms)) + length (flatten depth (particles form rest)) =
-      length-append (flatten (suc depth) (particles form ms)) (flatten depth (particles form rest)) in (
+      let e : length (preorder (suc depth) (particles form ms) ++ preorder depth (particles form rest))
+      ≡ length (preorder (suc depth) (particles form ms)) + length (preorder depth (particles form rest)) =
+      length-append (preorder (suc depth) (particles form ms)) (preorder depth (particles form rest)) in (
         record { sort = group-small k; quantifier = quantifier-small q; index = omega (arith, many-bound (suc depth) ms) },
-        every-append LaidParticle (flatten (suc depth) (particles form ms)) (flatten depth (particles form rest)) (laid-members (suc depth) ms (omega arith)) (laid-members depth rest (omega arith)),
+        every-append LaidParticle (preorder (suc depth) (particles form ms)) (preorder depth (particles form rest)) (laid-members (suc depth) ms (omega arith)) (laid-members depth rest (omega arith)),
       )
 
   laid-content : (c : Content) → length (contentParticles form c) ≤ 256 → Every LaidParticle (contentParticles form c)
@@ -205,29 +205,29 @@ module _ (version : ℕ) (form : Form) (models : Every (λ d. Sound (members d))
       at none m e k = absurd (false≢true e)
       at (some d) m e k = strip-every version (Within h form) (d .content) (fits-within h form (d .content) m k) (d .attributes) below (λ x a o b. absurd (element-not (x .sort) b a)) e
 
-  none-below : (P : Deep FlatRow → Type 0) (depth : ℕ) (owner : Bytes) (b : Forest Row) → isNone (heads b) ≡ true → Every P (flatten depth (indexed form owner b))
+  none-below : (P : Deep FlatRow → Type 0) (depth : ℕ) (owner : Bytes) (b : Forest Row) → isNone (heads b) ≡ true → Every P (preorder depth (indexed form owner b))
   none-below P depth owner bare e = tt
   none-below P depth owner (tree r b t) e = absurd (false≢true e)
 
   row-depths : (h depth : ℕ) (owner : Bytes) (f : Forest Row) → EveryRow (λ r below. fitsRow version form r below ≡ true) f → Every (Within h form) (heads f)
-      → Every (λ x. x .depth ≤ depth + h) (flatten depth (indexed form owner f))
+      → Every (λ x. x .depth ≤ depth + h) (preorder depth (indexed form owner f))
   unfolding fitsRow deep
   row-depths h depth owner bare e a = tt
   row-depths h depth owner (tree r b t) e a = (
     omega arith,
-    every-append (λ x. x .depth ≤ depth + h) (flatten (suc depth) (indexed form (r .name) b)) (flatten depth (indexed form owner t))
+    every-append (λ x. x .depth ≤ depth + h) (preorder (suc depth) (indexed form (r .name) b)) (preorder depth (indexed form owner t))
         (by h (r .sort) refl (a .0) (λ k. row-depths k (suc depth) (r .name) b (e .1)))
         (row-depths h depth owner t (e .2) (a .1)),
   )
     where
       Goal : ℕ → Type 0
-      Goal k = Every (λ x. x .depth ≤ depth + k) (flatten (suc depth) (indexed form (r .name) b))
+      Goal k = Every (λ x. x .depth ≤ depth + k) (preorder (suc depth) (indexed form (r .name) b))
 
       by : (k : ℕ) (s : RowSort) → r .sort ≡ s → Within k form r
-          → ((j : ℕ) → Every (Within j form) (heads b) → Every (λ x. x .depth ≤ suc depth + j) (flatten (suc depth) (indexed form (r .name) b))) → Goal k
+          → ((j : ℕ) → Every (Within j form) (heads b) → Every (λ x. x .depth ≤ suc depth + j) (preorder (suc depth) (indexed form (r .name) b))) → Goal k
       by zero element q w i = absurd (false≢true (w (ap isElement q)))
       by (suc k) element q w i =
-          every-map (λ x. x .depth ≤ suc depth + k) (λ x. x .depth ≤ depth + suc k) (flatten (suc depth) (indexed form (r .name) b)) (λ x l. omega arith)
+          every-map (λ x. x .depth ≤ suc depth + k) (λ x. x .depth ≤ depth + suc k) (preorder (suc depth) (indexed form (r .name) b)) (λ x l. omega arith)
           (i k (below-within k r (heads b) q (e .0) (w (ap isElement q))))
       by k attribute q w i = none-below (λ x. x .depth ≤ depth + k) (suc depth) (r .name) b (rw (q, fitsRow) at (e .0))
       by k text q w i = none-below (λ x. x .depth ≤ depth + k) (suc depth) (r .name) b (rw (q, fitsRow) at (e .0))
@@ -246,12 +246,12 @@ record LaidRow (x : Deep FlatRow) : Type 0 where
   length-value : length (x .row .value) < 256
   value : Small (x .row .value)
 
-laid-rows : (w : ℕ) (form : Form) (depth : ℕ) (owner : Bytes) (f : Forest Row) → w < 256 → EveryRow (λ r below. laidRow w r ≡ true) f → Every LaidRow (flatten depth (indexed form owner f))
+laid-rows : (w : ℕ) (form : Form) (depth : ℕ) (owner : Bytes) (f : Forest Row) → w < 256 → EveryRow (λ r below. laidRow w r ≡ true) f → Every LaidRow (preorder depth (indexed form owner f))
 laid-rows w form depth owner bare u a = tt
 laid-rows w form depth owner (tree r b t) u a =
     let l : length (r .value) ≤ w = laid-value w r (a .0) in (
       record { sort = row-small (r .sort); length-value = omega arith; value = laid-small w r (a .0) },
-      every-append LaidRow (flatten (suc depth) (indexed form (r .name) b)) (flatten depth (indexed form owner t))
+      every-append LaidRow (preorder (suc depth) (indexed form (r .name) b)) (preorder depth (indexed form owner t))
           (laid-rows w form (suc depth) (r .name) b u (a .1)) (laid-rows w form depth owner t u (a .2)),
     )
 

@@ -33,16 +33,16 @@ join Choice f g =
       follow = f .follow || g .follow;
     }
 
-abbrev pub quantify : Quantifier → Facts → Facts
-quantify None f = f
-quantify Qmark f = record { nothing = true; first = f .first; last = f .last; follow = f .follow }
-quantify Star f = record { nothing = true; first = f .first; last = f .last; follow = f .follow || (f .last && f .first) }
-quantify Plus f = record { nothing = f .nothing; first = f .first; last = f .last; follow = f .follow || (f .last && f .first) }
+abbrev pub quantifyFacts : Quantifier → Facts → Facts
+quantifyFacts None f = f
+quantifyFacts Qmark f = record { nothing = true; first = f .first; last = f .last; follow = f .follow }
+quantifyFacts Star f = record { nothing = true; first = f .first; last = f .last; follow = f .follow || (f .last && f .first) }
+quantifyFacts Plus f = record { nothing = f .nothing; first = f .first; last = f .last; follow = f .follow || (f .last && f .first) }
 
 unfoldable pub facts : {A : Type 0} → Equality A → GroupKind → Members A → A → A → Facts
 facts E k done x y = empty k
-facts E k (el q n rest) x y = join k (quantify q (single E n x y)) (facts E k rest x y)
-facts E k (group q j ms rest) x y = join k (quantify q (facts E j ms x y)) (facts E k rest x y)
+facts E k (el q n rest) x y = join k (quantifyFacts q (single E n x y)) (facts E k rest x y)
+facts E k (group q j ms rest) x y = join k (quantifyFacts q (facts E j ms x y)) (facts E k rest x y)
 
 -- after the name x, do the names that follow end a word
 unfoldable pub continues : {A : Type 0} → Equality A → Members A → A → List A → Bool

@@ -11,7 +11,7 @@ use Rattle.rules.specs.Bytes.{Bytes, same}
 use Rattle.rules.specs.Model.{Members, done, el, group}
 use Rattle.rules.specs.Store.{Content, empty, pcdata, complex, AttributeSort, implied, required, fixed, Attribute, Definition, Form, RowSort, element}
 use Rattle.rules.specs.Store.{attribute, text, Row, Forest, bare, tree, Store}
-use Rattle.rules.specs.Preorder.{Deep, flatten}
+use Rattle.rules.specs.Preorder.{Deep, preorder}
 
 -- the version of a fresh store, and the width of a value by version
 abbrev pub baseVersion : ℕ
@@ -176,7 +176,7 @@ particles form (group q k ms rest) = tree (record { sort = groupCode k; quantifi
 abbrev pub contentParticles : Form → Content → List (Deep FlatParticle)
 contentParticles form empty = []
 contentParticles form pcdata = []
-contentParticles form (complex ms) = flatten 0 (particles form ms)
+contentParticles form (complex ms) = preorder 0 (particles form ms)
 
 abbrev pub flatDefinition : Form → Definition → FlatDefinition
 flatDefinition form d = record { name = d .name; kind = kindCode (d .content); particles = length (contentParticles form (d .content)) }
@@ -212,7 +212,7 @@ flat s =
       definitions = map (flatDefinition (s .form)) (s .form);
       particles = allParticles (s .form) (s .form);
       attributes = allAttributes 0 (s .form);
-      rows = flatten 0 (indexed (s .form) [] (s .docs));
+      rows = preorder 0 (indexed (s .form) [] (s .docs));
     }
 
 abbrev pub encode : Store → Bytes

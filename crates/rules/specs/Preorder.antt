@@ -9,9 +9,9 @@ pub record Deep (A : Type 0) : Type 0 where
   pub depth : ℕ
   pub row : A
 
-abbrev pub flatten : {A : Type 0} → ℕ → Forest A → List (Deep A)
-flatten d bare = []
-flatten d (tree r b t) = record { depth = d; row = r } ∷ (flatten (suc d) b ++ flatten d t)
+abbrev pub preorder : {A : Type 0} → ℕ → Forest A → List (Deep A)
+preorder d bare = []
+preorder d (tree r b t) = record { depth = d; row = r } ∷ (preorder (suc d) b ++ preorder d t)
 
 -- Of rows with depths: those of depth k that stand beside one another
 -- from here on, each with the deeper ones that follow it.

@@ -40,8 +40,8 @@ first [] = 0
 first (c ∷ cs) = elim (c .holds) [ true ↦ c .number | false ↦ first cs ]
 
 -- ---- words of the table
-abbrev pub past : {A : Type 0} → ℕ → List A → Bool
-past i xs = not (ltb i (length xs))
+abbrev pub pastEnd : {A : Type 0} → ℕ → List A → Bool
+pastEnd i xs = not (ltb i (length xs))
 
 abbrev pub rowsOf : Store → List Line
 rowsOf s = lines 0 (s .docs)
@@ -157,7 +157,7 @@ conditions (createDefinition n k) s =
     ∷ []
 conditions (destroyDefinition i) s =
     let n : Bytes = nameAtIndex i (s .form) in
-    6 if past i (s .form)
+    6 if pastEnd i (s .form)
     ∷ 10 if (any (λ (d : Definition). member bytes n (names (members d))) (s .form) || any (elementNamed n) (heads (s .docs)))
     ∷ []
 conditions (insertElement o p i q t) s =
@@ -166,7 +166,7 @@ conditions (insertElement o p i q t) s =
     let n : Bytes = nameAtIndex i (s .form) in
     3 if badText s t
     ∷ 4 if ltb 3 q
-    ∷ 6 if (past o (s .form) || past i (s .form))
+    ∷ 6 if (pastEnd o (s .form) || pastEnd i (s .form))
     ∷ 8 if noPlace found
     ∷ 9 if not (isComplex (owner .content))
     ∷ 10 if member bytes n (names (members owner))
@@ -176,7 +176,7 @@ conditions (insertElement o p i q t) s =
     ∷ []
 conditions (removeElement o p) s =
     let found : Option (Found Bytes) = foundAt remove o p s in
-    6 if past o (s .form)
+    6 if pastEnd o (s .form)
     ∷ 8 if noElementAt found
     ∷ 14 if atPlace (λ c x. removeLast c (tailOf x)) found
     ∷ 15 if (instanceExists (nameAtIndex o (s .form)) s && atPlace (λ c x. removeUnmatched c (tailOf x)) found)
@@ -185,7 +185,7 @@ conditions (changeQuantifier o p q t) s =
     let found : Option (Found Bytes) = foundAt (quantify (quantifierOf q)) o p s in
     3 if badText s t
     ∷ 4 if ltb 3 q
-    ∷ 6 if past o (s .form)
+    ∷ 6 if pastEnd o (s .form)
     ∷ 8 if noElementAt found
     ∷ 12 if (gainAt (quantifierOf q) found && isNone t)
     ∷ 13 if (instanceExists (nameAtIndex o (s .form)) s && offSpineAt (quantifierOf q) found)
@@ -193,13 +193,13 @@ conditions (changeQuantifier o p q t) s =
 conditions (convertToGroup o p n k) s =
     let found : Option (Found Bytes) = foundAt (convert (groupOf k) n) o p s in
     4 if (not (eqb k 1 || eqb k 2))
-    ∷ 6 if past o (s .form)
+    ∷ 6 if pastEnd o (s .form)
     ∷ 8 if (noPlace found || atPlace (λ c x. not (hasMembers n x)) found)
     ∷ 14 if atPlace (λ c x. groupUnlike c (groupOf k) (firstMembers n x)) found
     ∷ []
 conditions (flattenGroup o p) s =
     let found : Option (Found Bytes) = foundAt flatten o p s in
-    6 if past o (s .form)
+    6 if pastEnd o (s .form)
     ∷ 8 if noGroupAt found
     ∷ 14 if atPlace flattenUnlike found
     ∷ []
@@ -207,7 +207,7 @@ conditions (changeGroupQuantifier o p q t) s =
     let found : Option (Found Bytes) = foundAt (quantify (quantifierOf q)) o p s in
     3 if badText s t
     ∷ 4 if ltb 3 q
-    ∷ 6 if past o (s .form)
+    ∷ 6 if pastEnd o (s .form)
     ∷ 8 if noGroupAt found
     ∷ 12 if (groupGainAt (quantifierOf q) found && isNone t)
     ∷ 13 if (instanceExists (nameAtIndex o (s .form)) s && groupOffSpineAt (quantifierOf q) found)
@@ -217,17 +217,17 @@ conditions (addAttribute o n k v) s =
     ∷ 3 if badText s v
     ∷ 4 if ltb 2 k
     ∷ 5 if member bytes n (map attributeName (definitionAt o (s .form) .attributes))
-    ∷ 6 if past o (s .form)
+    ∷ 6 if pastEnd o (s .form)
     ∷ 12 if wrongDefault k v
     ∷ []
 conditions (destroyAttribute a) s = 6 if isOther (attributeAt a (s .form)) none ∷ []
 conditions (addDocument i t) s =
     3 if badText s t
-    ∷ 6 if past i (s .form)
+    ∷ 6 if pastEnd i (s .form)
     ∷ []
 conditions (addElement k j i t) s =
     3 if badText s t
-    ∷ 6 if past i (s .form)
+    ∷ 6 if pastEnd i (s .form)
     ∷ 7 if noElement k s
     ∷ 8 if ltb (length (childrenOf isElementRow k (rowsOf s))) j
     ∷ 15 if not (conforming (s .version) (s .form) (after (addElement k j i t) s .docs))

@@ -12,7 +12,7 @@ use Rattle.layout.proofs.LayoutLaws.{record-first, record-after}
 use Rattle.rules.specs.Bytes.{Bytes, numbers, all}
 use Rattle.rules.specs.Model.{Distinct, distinct}
 use Rattle.rules.specs.Store.{Form, Row, Forest, bare, tree}
-use Rattle.rules.specs.Preorder.{flatten}
+use Rattle.rules.specs.Preorder.{preorder}
 use Rattle.rules.specs.Layout.{rowSize, FlatRow, indexed}
 use Rattle.rules.specs.Decode.{readRow, readRows}
 use Rattle.rules.specs.WellFormed.{highestNumber}
@@ -23,19 +23,19 @@ use Rattle.serial_check.specs.Serials.{serialOfDeep, serialsOf, fitting,
 
 -- ---- the serials of documents
 -- the serials of documents are those of their rows in preorder
-pub serials-flat : (d : ℕ) (form : Form) (owner : Bytes) (docs : Forest Row) → serials docs ≡ map serialOfDeep (flatten d (indexed form owner docs))
+pub serials-flat : (d : ℕ) (form : Form) (owner : Bytes) (docs : Forest Row) → serials docs ≡ map serialOfDeep (preorder d (indexed form owner docs))
 serials-flat d form owner bare = refl
 serials-flat d form owner (tree r b t) =
     ap (λ (l : List ℕ). r .serial ∷ l)
     (ap₂ (λ (x y : List ℕ). x ++ y) (serials-flat (suc d) form (r .name) b) (serials-flat d form owner t)
-    ∙ sym (map-append serialOfDeep (flatten (suc d) (indexed form (r .name) b)) (flatten d (indexed form owner t))))
+    ∙ sym (map-append serialOfDeep (preorder (suc d) (indexed form (r .name) b)) (preorder d (indexed form owner t))))
 
 -- .. and so are those of documents that were read
-pub serials-read : (d : ℕ) (ns cs : List Bytes) (f : Forest FlatRow) → serials (readRows ns cs f) ≡ map serialOfDeep (flatten d f)
+pub serials-read : (d : ℕ) (ns cs : List Bytes) (f : Forest FlatRow) → serials (readRows ns cs f) ≡ map serialOfDeep (preorder d f)
 serials-read d ns cs bare = refl
 serials-read d ns cs (tree x b t) =
     ap (λ (l : List ℕ). x .serial ∷ l)
-    (ap₂ (λ (x y : List ℕ). x ++ y) (serials-read (suc d) ns cs b) (serials-read d ns cs t) ∙ sym (map-append serialOfDeep (flatten (suc d) b) (flatten d t)))
+    (ap₂ (λ (x y : List ℕ). x ++ y) (serials-read (suc d) ns cs b) (serials-read d ns cs t) ∙ sym (map-append serialOfDeep (preorder (suc d) b) (preorder d t)))
 
 -- the test of the check, of serials and of the next one
 pub good-serials-fit : (next : ℕ) (docs : Forest Row) → goodSerials next docs ≡ (fitting next (serials docs) && (leb 1 next && leb next highestNumber))

@@ -12,14 +12,14 @@ use borrow.Author.Tests.{eqb-true, leb-true, ltb-true, eq-eqb, ne-eqb, not-true}
 use Rattle.rules.specs.Bytes.{Bytes, all, isNone, numbers}
 use Rattle.rules.specs.Model.{Members, names, Distinct, distinct, Some, Full}
 use Rattle.rules.specs.Store.{Form, Forest, bare, tree, heads, modelOf}
-use Rattle.rules.specs.Preorder.{Deep, flatten, build}
+use Rattle.rules.specs.Preorder.{Deep, preorder, build}
 use Rattle.rules.specs.Layout.{FlatParticle, quantifierCode, groupCode, kindCode, howMany, particles}
 use Rattle.rules.specs.Decode.{nameAt, quantifierOf, groupOf, contentOf, memberOf, readMembers}
 use Rattle.rules.specs.WellFormed.{known}
 use Rattle.rules.proofs.Words.{and-split}
 use Rattle.rules.proofs.BooleanLaws.{Every, every-append, every-at}
 use Rattle.rules.proofs.TestLaws.{distinct-test}
-use Rattle.rules.proofs.PreorderLaws.{flatten-build, rising}
+use Rattle.rules.proofs.PreorderLaws.{preorder-build, rising}
 use Rattle.rules.proofs.RenamingPlaces.{names-rename}
 use Rattle.model.specs.Members.{indexMember, indexMembers}
 use Rattle.model.proofs.MembersLaws.{members-named}
@@ -83,23 +83,23 @@ unfolding elementsIn
 elements-past x xs k e = rw (ne-eqb (x .row .sort) 0 (λ z. omega arith), elementsIn)
 
 module _ (n : ℕ) where
-  pub names-elements : (d : ℕ) (t : Forest FlatParticle) → shaped n t ≡ true → names (indexMembers t) ≡ elementsIn (flatten d t)
+  pub names-elements : (d : ℕ) (t : Forest FlatParticle) → shaped n t ≡ true → names (indexMembers t) ≡ elementsIn (preorder d t)
   unfolding names elementsIn
   names-elements d bare h = refl
   names-elements d (tree p b t) h = let s : Shaped n p b t = shaped-tree n p b t h in by (s .particle) (names-elements (suc d) b (s .below)) (names-elements d t (s .beside))
     where
-      by : Single n p b ⊎ Grouped p b → names (indexMembers b) ≡ elementsIn (flatten (suc d) b) → names (indexMembers t) ≡ elementsIn (flatten d t)
-          → names (indexMembers (tree p b t)) ≡ elementsIn (flatten d (tree p b t))
+      by : Single n p b ⊎ Grouped p b → names (indexMembers b) ≡ elementsIn (preorder (suc d) b) → names (indexMembers t) ≡ elementsIn (preorder d t)
+          → names (indexMembers (tree p b t)) ≡ elementsIn (preorder d (tree p b t))
       by (inl x) e f =
           ap (λ (s : ℕ). names (indexMember p s (indexMembers b) (indexMembers t))) (x .sort)
           ∙ ap (λ (z : List ℕ). p .index ∷ z) f
-          ∙ ap (λ (z : Forest FlatParticle). p .index ∷ elementsIn (flatten (suc d) z ++ flatten d t)) (sym (x .none))
-          ∙ sym (elements-here (record { depth = d; row = p }) (flatten (suc d) b ++ flatten d t) (x .sort))
+          ∙ ap (λ (z : Forest FlatParticle). p .index ∷ elementsIn (preorder (suc d) z ++ preorder d t)) (sym (x .none))
+          ∙ sym (elements-here (record { depth = d; row = p }) (preorder (suc d) b ++ preorder d t) (x .sort))
       by (inr x) e f =
           ap (λ (s : ℕ). names (indexMember p s (indexMembers b) (indexMembers t))) (x .sort)
           ∙ ap₂ (λ (u v : List ℕ). u ++ v) e f
-          ∙ sym (elements-append (flatten (suc d) b) (flatten d t))
-          ∙ sym (elements-past (record { depth = d; row = p }) (flatten (suc d) b ++ flatten d t) (x .code) (x .sort))
+          ∙ sym (elements-append (preorder (suc d) b) (preorder d t))
+          ∙ sym (elements-past (record { depth = d; row = p }) (preorder (suc d) b ++ preorder d t) (x .code) (x .sort))
 
   pub names-below : (t : Forest FlatParticle) → shaped n t ≡ true → Every (λ j. j < n) (names (indexMembers t))
   unfolding names
@@ -196,7 +196,7 @@ module _ (form : Form) (apart : Distinct (namesOf form)) where
 
   -- what the test of a part says of the model
   pub record ModelRead (part : List (Deep FlatParticle)) : Type 0 where
-    pub back : flatten 0 (particles form (readMembers (namesOf form) (build part 0))) ≡ part
+    pub back : preorder 0 (particles form (readMembers (namesOf form) (build part 0))) ≡ part
     pub indices : names (indexMembers (build part 0)) ≡ elementsIn part
     pub below : Every (λ j. j < length form) (names (indexMembers (build part 0)))
     pub inRange : (m : Bytes) → List·Memᴰ m (names (readMembers (namesOf form) (build part 0))) → known form m ≡ true
@@ -209,12 +209,12 @@ module _ (form : Form) (apart : Distinct (namesOf form)) where
       let (depths, h₁) = and-split (all (λ (p : Deep FlatParticle). leb (p .depth) 4) part) _ h in
       let (rises, h₂) = and-split (rising 0 part) _ h₁ in
       let (shape, apart₁) = and-split (shaped (length form) (build part 0)) (distinct numbers (elementsIn part)) h₂ in
-      let whole : flatten 0 (build part 0) ≡ part = flatten-build part rises in
+      let whole : preorder 0 (build part 0) ≡ part = preorder-build part rises in
       let indices : names (indexMembers (build part 0)) ≡ elementsIn part = names-elements (length form) 0 (build part 0) shape ∙ ap elementsIn whole in
       let below : Every (λ j. j < length form) (names (indexMembers (build part 0))) = names-below (length form) (build part 0) shape in
       let renamed : names (readMembers (namesOf form) (build part 0)) ≡ map (λ i. nameAt i (namesOf form)) (names (indexMembers (build part 0))) = read-names (namesOf form) (build part 0) in
       record {
-        back = ap (λ (z : Forest FlatParticle). flatten 0 z) (particles-read (build part 0) shape) ∙ whole;
+        back = ap (λ (z : Forest FlatParticle). preorder 0 z) (particles-read (build part 0) shape) ∙ whole;
         indices = indices;
         below = below;
         inRange = λ m i.

@@ -16,24 +16,24 @@ use Rattle.rules.specs.declared.GroupKind.the-variants.{Sequence, Choice}
 use Rattle.rules.specs.Bytes.{Bytes, all, isNone, numbers}
 use Rattle.rules.specs.Model.{Members, done, el, group, names, Distinct, distinct, Some, Full}
 use Rattle.rules.specs.Store.{Content, empty, pcdata, complex, Form, Forest, bare, tree, heads, modelOf, members}
-use Rattle.rules.specs.Preorder.{Deep, flatten}
+use Rattle.rules.specs.Preorder.{Deep, preorder}
 use Rattle.rules.specs.Layout.{FlatParticle, quantifierCode, groupCode, kindCode, indexOf, howMany, particles, contentParticles, flatDefinition, allParticles}
 use Rattle.rules.specs.WellFormed.{known, storedName}
 use Rattle.rules.proofs.Words.{and-both}
 use Rattle.rules.proofs.BooleanLaws.{Every, all-left, all-right}
 use Rattle.rules.proofs.TestLaws.{distinct-test}
-use Rattle.rules.proofs.PreorderLaws.{build-flatten, rising, flatten-rises}
+use Rattle.rules.proofs.PreorderLaws.{build-preorder, rising, preorder-rises}
 use Rattle.form_check.specs.FormTests.{particleFits, shaped, elementsIn, modelFits, modelsFit}
 use Rattle.store_check.specs.Reading.{DefinitionFits}
 use Rattle.store_check.proofs.IndexLaws.{known-index, index-once, distinct-map}
 use Rattle.circle_check.proofs.ReadLaws.{elements-append}
 
-pub rising-flatten : {A : Type 0} (d k : ℕ) (t : Forest A) (rest : List (Deep A)) → d ≤ k → ((j : ℕ) → d ≤ j → rising j rest ≡ true) → rising k (flatten d t ++ rest) ≡ true
-rising-flatten d k bare rest l h = h k l
-rising-flatten {A} d k (tree r b t) rest l h =
+pub rising-preorder : {A : Type 0} (d k : ℕ) (t : Forest A) (rest : List (Deep A)) → d ≤ k → ((j : ℕ) → d ≤ j → rising j rest ≡ true) → rising k (preorder d t ++ rest) ≡ true
+rising-preorder d k bare rest l h = h k l
+rising-preorder {A} d k (tree r b t) rest l h =
     and-both (le-leb d k l)
-    (subst (λ (z : List (Deep A)). rising (suc d) z ≡ true) (sym (append-assoc (flatten (suc d) b) (flatten d t) rest))
-    (rising-flatten (suc d) (suc d) b (flatten d t ++ rest) (omega arith) (λ j m. rising-flatten d j t rest (omega arith) h)))
+    (subst (λ (z : List (Deep A)). rising (suc d) z ≡ true) (sym (append-assoc (preorder (suc d) b) (preorder d t) rest))
+    (rising-preorder (suc d) (suc d) b (preorder d t ++ rest) (omega arith) (λ j m. rising-preorder d j t rest (omega arith) h)))
 
 quantifier-most : (q : Quantifier) → leb (quantifierCode q) 3 ≡ true
 quantifier-most None = refl
@@ -71,17 +71,17 @@ module _ (form : Form) where
       and-both (group-fits q k ms s)
       (and-both (shaped-written ms (λ m i. h m (Memᴰ·append-left (names rest) i)) f) (shaped-written rest (λ m i. h m (Memᴰ·append-right (names ms) i)) g))
 
-  elements-written : (d : ℕ) (ms : Members Bytes) → elementsIn (flatten d (particles form ms)) ≡ map (λ n. indexOf n form) (names ms)
+  elements-written : (d : ℕ) (ms : Members Bytes) → elementsIn (preorder d (particles form ms)) ≡ map (λ n. indexOf n form) (names ms)
   unfolding names elementsIn
   elements-written d done = refl
   elements-written d (el q n rest) = ap (λ (z : List ℕ). indexOf n form ∷ z) (elements-written d rest)
   elements-written d (group q k ms rest) =
       past k
-      ∙ elements-append (flatten (suc d) (particles form ms)) (flatten d (particles form rest))
+      ∙ elements-append (preorder (suc d) (particles form ms)) (preorder d (particles form rest))
       ∙ ap₂ (λ (u v : List ℕ). u ++ v) (elements-written (suc d) ms) (elements-written d rest)
       ∙ sym (map-append (λ n. indexOf n form) (names ms) (names rest))
     where
-      past : (k : GroupKind) → elementsIn (flatten d (particles form (group q k ms rest))) ≡ elementsIn (flatten (suc d) (particles form ms) ++ flatten d (particles form rest))
+      past : (k : GroupKind) → elementsIn (preorder d (particles form (group q k ms rest))) ≡ elementsIn (preorder (suc d) (particles form ms) ++ preorder d (particles form rest))
       past Sequence = refl
       past Choice = refl
 
@@ -98,9 +98,9 @@ module _ (form : Form) where
   model-written pcdata g h = refl
   model-written (complex ms) g h =
       and-both h
-      (and-both (flatten-rises (particles form ms))
-      (and-both (ap (λ (z : Forest FlatParticle). shaped (length form) z) (build-flatten (particles form ms)) ∙ shaped-written ms (g .inRange) (g .groups))
-      (distinct-test numbers (elementsIn (flatten 0 (particles form ms))) .1
+      (and-both (preorder-rises (particles form ms))
+      (and-both (ap (λ (z : Forest FlatParticle). shaped (length form) z) (build-preorder (particles form ms)) ∙ shaped-written ms (g .inRange) (g .groups))
+      (distinct-test numbers (elementsIn (preorder 0 (particles form ms))) .1
       (rw (elements-written 0 ms)
       (distinct-map (λ n. indexOf n form) (names ms) (λ x y i j e. index-once form x y (g .inRange x i) (g .inRange y j) e) (g .once))))))
 

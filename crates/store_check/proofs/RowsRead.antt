@@ -10,14 +10,14 @@ use lib.ListN.{length}
 use borrow.Author.Tests.{eq-eqb, ne-eqb}
 use Rattle.rules.specs.Bytes.{Bytes}
 use Rattle.rules.specs.Store.{Definition, Form, RowSort, element, attribute, text, Row, Forest, bare, tree, heads}
-use Rattle.rules.specs.Preorder.{Deep, flatten, build}
+use Rattle.rules.specs.Preorder.{Deep, preorder, build}
 use Rattle.rules.specs.Layout.{FlatRow, rowCode, indexOf, attributeIndex, rowIndex, indexed}
 use Rattle.rules.specs.Decode.{nameAt, rowSortOf, rowName, readRows}
 use Rattle.rules.specs.WellFormed.{lookup, isThere, wellFormed}
 use Rattle.rules.specs.Conforming.{ElementRows, RowConforms, EveryRow, Conforming}
 use Rattle.rules.specs.Change.{definitionAt}
 use Rattle.rules.proofs.BooleanLaws.{Every, every-in, every-left, every-right}
-use Rattle.rules.proofs.PreorderLaws.{build-flatten}
+use Rattle.rules.proofs.PreorderLaws.{build-preorder}
 use Rattle.rules.proofs.DecodeLaws.{attributeNames}
 use Rattle.form_index.specs.Indices.{IndexForm, Sort, Below, Under, Everywhere, Documents}
 use Rattle.store_check.specs.Reading.{Agrees, PlainRow, ReadsAs}
@@ -71,14 +71,14 @@ module _ {version : ℕ} (w : ℕ) (form : Form) (ok : wellFormed w form ≡ tru
   row-read (suc (suc zero)) i rs l m f g = ap (λ (z : List FlatRow). map (rowRead form) z) (g (λ e. omega arith))
   row-read (suc (suc (suc s))) i rs l m f g = ap (λ (z : List FlatRow). map (rowRead form) z) (g (λ e. omega arith))
 
-  rows-read : (d : ℕ) (t : Forest FlatRow) → Everywhere F t → Every (λ x. PlainRow (x .row)) (flatten d t) → EveryRow (λ r below. RowConforms version form r below) (docsRead form t)
+  rows-read : (d : ℕ) (t : Forest FlatRow) → Everywhere F t → Every (λ x. PlainRow (x .row)) (preorder d t) → EveryRow (λ r below. RowConforms version form r below) (docsRead form t)
   unfolding Everywhere
   rows-read d bare e p = tt
   rows-read d (tree x b t) (u, e, g) p = (
     subst (λ (z : List Row). RowConforms version form (rowRead form x) z) (sym (heads-read form b))
         (row-read (x .sort) (x .index) (heads b) (p .0 .low) (p .0 .high) (λ q. under-element F x (heads b) q u) (λ q. under-other F x (heads b) q u)),
-    rows-read (suc d) b e (every-left (λ x. PlainRow (x .row)) (flatten (suc d) b) (flatten d t) (p .1)),
-    rows-read d t g (every-right (λ x. PlainRow (x .row)) (flatten (suc d) b) (flatten d t) (p .1)),
+    rows-read (suc d) b e (every-left (λ x. PlainRow (x .row)) (preorder (suc d) b) (preorder d t) (p .1)),
+    rows-read d t g (every-right (λ x. PlainRow (x .row)) (preorder (suc d) b) (preorder d t) (p .1)),
   )
 
   -- a row's index is that of its name, below an owner
@@ -104,13 +104,13 @@ module _ {version : ℕ} (w : ℕ) (form : Form) (ok : wellFormed w form ≡ tru
       below-found w form ok F agrees i (omega (arith, agrees .size)) rs x
   below-placed (suc (suc s)) i rs l f g = subst (λ (z : List FlatRow). Every (Placed (rowName (namesOf form) (attributeNames form) (rowSortOf (suc (suc s))) i)) z) (sym (g (λ e. omega arith))) tt
 
-  rows-back : (d : ℕ) (owner : Bytes) (t : Forest FlatRow) → Everywhere F t → Every (λ x. PlainRow (x .row)) (flatten d t) → Every (Placed owner) (heads t) → indexed form owner (docsRead form t) ≡ t
+  rows-back : (d : ℕ) (owner : Bytes) (t : Forest FlatRow) → Everywhere F t → Every (λ x. PlainRow (x .row)) (preorder d t) → Every (Placed owner) (heads t) → indexed form owner (docsRead form t) ≡ t
   unfolding Everywhere
   rows-back d owner bare e p h = refl
   rows-back d owner (tree x b t) (u, e, g) p h = λ i.
       tree (record { sort = sort-back (x .sort) (p .0 .low) (p .0 .high) i; index = at i; serial = x .serial; value = x .value })
-      (rows-back (suc d) (rowRead form x .name) b e (every-left (λ x. PlainRow (x .row)) (flatten (suc d) b) (flatten d t) (p .1)) placed i)
-      (rows-back d owner t g (every-right (λ x. PlainRow (x .row)) (flatten (suc d) b) (flatten d t) (p .1)) (h .1) i)
+      (rows-back (suc d) (rowRead form x .name) b e (every-left (λ x. PlainRow (x .row)) (preorder (suc d) b) (preorder d t) (p .1)) placed i)
+      (rows-back d owner t g (every-right (λ x. PlainRow (x .row)) (preorder (suc d) b) (preorder d t) (p .1)) (h .1) i)
     where
       at : rowIndex form owner (rowRead form x) ≡ x .index
       at = index-back owner (x .sort) (x .index) (p .0 .low) (p .0 .high)
@@ -127,15 +127,15 @@ module _ {version : ℕ} (w : ℕ) (form : Form) (ok : wellFormed w form ≡ tru
   documents-read xs p x = subst (λ (t : Forest FlatRow). ReadsAs version form xs (docsRead form t)) (sym built) read
     where
       built : build xs 0 ≡ x .docs
-      built = ap (λ (z : List (Deep FlatRow)). build z 0) (sym (x .rows)) ∙ build-flatten (x .docs)
+      built = ap (λ (z : List (Deep FlatRow)). build z 0) (sym (x .rows)) ∙ build-preorder (x .docs)
 
-      plain : Every (λ x. PlainRow (x .row)) (flatten 0 (x .docs))
+      plain : Every (λ x. PlainRow (x .row)) (preorder 0 (x .docs))
       plain = subst (λ (z : List (Deep FlatRow)). Every (λ x. PlainRow (x .row)) z) (sym (x .rows)) p
 
       read : ReadsAs version form xs (docsRead form (x .docs))
       read =
           record {
-            rows = ap (λ (t : Forest FlatRow). flatten 0 t) (rows-back 0 [] (x .docs) (x .everywhere) plain (roots-placed (heads (x .docs)) (x .roots))) ∙ x .rows;
+            rows = ap (λ (t : Forest FlatRow). preorder 0 t) (rows-back 0 [] (x .docs) (x .everywhere) plain (roots-placed (heads (x .docs)) (x .roots))) ∙ x .rows;
             conforming = record {
               roots = λ r m.
                   let (y, k, e) = Memᴰ·of-map (rowRead form) (heads (x .docs)) (subst (λ (z : List Row). List·Memᴰ r z) (heads-read form (x .docs)) m) in
@@ -169,7 +169,7 @@ module _ {version : ℕ} (w : ℕ) (form : Form) (ok : wellFormed w form ≡ tru
     everywhere-written owner t g,
   )
 
-  pub documents-written : (xs : List (Deep FlatRow)) (docs : Forest Row) → flatten 0 (indexed form [] docs) ≡ xs → Conforming version form docs → Documents F xs
+  pub documents-written : (xs : List (Deep FlatRow)) (docs : Forest Row) → preorder 0 (indexed form [] docs) ≡ xs → Conforming version form docs → Documents F xs
   documents-written xs docs e c =
       record {
         docs = indexed form [] docs;

@@ -9,7 +9,7 @@ use lib.Dec.{ltb}
 use lib.ListN.{length}
 use Rattle.rules.specs.Bytes.{Bytes}
 use Rattle.rules.specs.Store.{Form, Row, Forest}
-use Rattle.rules.specs.Preorder.{flatten}
+use Rattle.rules.specs.Preorder.{preorder}
 use Rattle.rules.specs.Layout.{valueWidth, rowSize, FlatStore, indexed}
 use Rattle.rules.specs.Decode.{numberAt, readRow, definitionCount, attributeCount, rowCount}
 use Rattle.rules.specs.WellFormed.{isValue}
@@ -52,7 +52,7 @@ value-given bs t e = ap (λ (n : ℕ). isValue n t) (width-of-store bs) ∙ not-
 pub record Whole (bs : Bytes) : Type 0 where
   pub holds : Holds bs
   pub good : Good (storeIn bs)
-  pub rows : recordsFrom readRow (rowSize (widthOf bs)) (treeRowsIn bs) (rowCount bs) 0 ≡ flatten 0 (indexed (formIn bs) [] (docsIn bs))
+  pub rows : recordsFrom readRow (rowSize (widthOf bs)) (treeRowsIn bs) (rowCount bs) 0 ≡ preorder 0 (indexed (formIn bs) [] (docsIn bs))
   pub few : rowCount bs ≤ 4096
   pub fewDefinitions : definitionCount bs ≤ 64
   pub fewAttributes : attributeCount bs ≤ 64

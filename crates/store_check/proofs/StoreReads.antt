@@ -8,7 +8,7 @@ use mathlib.Core.Bool.{Bool, true, _&&_}
 use mathlib.Core.List.{List, [], _∷_, _++_, map, map-append}
 use Rattle.rules.specs.Bytes.{Bytes, isNone}
 use Rattle.rules.specs.Store.{Form, RowSort, element, attribute, text, Row, Forest, bare, tree, Store}
-use Rattle.rules.specs.Preorder.{Deep, flatten, build}
+use Rattle.rules.specs.Preorder.{Deep, preorder, build}
 use Rattle.rules.specs.Layout.{valueWidth, FlatRow, FlatStore, rowCode, indexOf, attributeIndex, indexed, flat, flatBytes, encode}
 use Rattle.rules.specs.Decode.{numberAt, readFlat, rowSortOf, rowName, readRows, flatAttributeName, unflat}
 use Rattle.rules.specs.WellFormed.{isValue, withinCeilings, wellFormed}
@@ -16,7 +16,7 @@ use Rattle.rules.specs.Conforming.{EveryRow}
 use Rattle.rules.specs.Passing.{laidRow, serials, goodSerials, good, Good, passes}
 use Rattle.rules.proofs.Words.{and-both, and-split}
 use Rattle.rules.proofs.BooleanLaws.{Every, every-append, every-map, none-nil, every-left, every-right}
-use Rattle.rules.proofs.PreorderLaws.{build-flatten}
+use Rattle.rules.proofs.PreorderLaws.{build-preorder}
 use Rattle.rules.proofs.LayoutLaws.{unle-le, read-bytes}
 use Rattle.rules.proofs.SerialLaws.{good-serials}
 use Rattle.rules.proofs.WellFormedLaws.{well-formed, no-circle, none-value}
@@ -50,11 +50,11 @@ fits-sort w form owner r attribute h = record { plain = record { low = omega ari
 fits-sort w form owner r text h =
     record { plain = record { low = omega arith; high = omega arith; text = λ e. refl }; value = and-split (isValue w (r .value)) (isNone (r .name)) h .0; element = λ e. absurd (omega arith) }
 
-rows-fit : (w : ℕ) (form : Form) (d : ℕ) (owner : Bytes) (t : Forest Row) → EveryRow (λ r below. laidRow w r ≡ true) t → Every (λ x. RowFits w (x .row)) (flatten d (indexed form owner t))
+rows-fit : (w : ℕ) (form : Form) (d : ℕ) (owner : Bytes) (t : Forest Row) → EveryRow (λ r below. laidRow w r ≡ true) t → Every (λ x. RowFits w (x .row)) (preorder d (indexed form owner t))
 rows-fit w form d owner bare h = tt
 rows-fit w form d owner (tree r b t) h = (
   fits-sort w form owner r (r .sort) (h .0),
-  every-append (λ x. RowFits w (x .row)) (flatten (suc d) (indexed form (r .name) b)) (flatten d (indexed form owner t))
+  every-append (λ x. RowFits w (x .row)) (preorder (suc d) (indexed form (r .name) b)) (preorder d (indexed form owner t))
       (rows-fit w form (suc d) (r .name) b (h .1)) (rows-fit w form d owner t (h .2)),
 )
 
@@ -69,20 +69,20 @@ laid-sort w form x (suc zero) l e v = ap isNone (e refl)
 laid-sort w form x (suc (suc zero)) l e v = v
 laid-sort w form x (suc (suc (suc s))) l e v = and-both v refl
 
-rows-laid : (w : ℕ) (form : Form) (d : ℕ) (t : Forest FlatRow) → Every (λ x. RowFits w (x .row)) (flatten d t) → EveryRow (λ r below. laidRow w r ≡ true) (docsRead form t)
+rows-laid : (w : ℕ) (form : Form) (d : ℕ) (t : Forest FlatRow) → Every (λ x. RowFits w (x .row)) (preorder d t) → EveryRow (λ r below. laidRow w r ≡ true) (docsRead form t)
 rows-laid w form d bare h = tt
 rows-laid w form d (tree x b t) h = (
   laid-sort w form x (x .sort) (h .0 .plain .low) (h .0 .element) (h .0 .value),
-  rows-laid w form (suc d) b (every-left (λ x. RowFits w (x .row)) (flatten (suc d) b) (flatten d t) (h .1)),
-  rows-laid w form d t (every-right (λ x. RowFits w (x .row)) (flatten (suc d) b) (flatten d t) (h .1)),
+  rows-laid w form (suc d) b (every-left (λ x. RowFits w (x .row)) (preorder (suc d) b) (preorder d t) (h .1)),
+  rows-laid w form d t (every-right (λ x. RowFits w (x .row)) (preorder (suc d) b) (preorder d t) (h .1)),
 )
 
 -- ---- serials
-serials-written : (form : Form) (d : ℕ) (owner : Bytes) (t : Forest Row) → serialsOfRows (flatten d (indexed form owner t)) ≡ serials t
+serials-written : (form : Form) (d : ℕ) (owner : Bytes) (t : Forest Row) → serialsOfRows (preorder d (indexed form owner t)) ≡ serials t
 serials-written form d owner bare = refl
 serials-written form d owner (tree r b t) =
     ap (λ (z : List ℕ). r .serial ∷ z)
-    (map-append (λ (x : Deep FlatRow). x .row .serial) (flatten (suc d) (indexed form (r .name) b)) (flatten d (indexed form owner t))
+    (map-append (λ (x : Deep FlatRow). x .row .serial) (preorder (suc d) (indexed form (r .name) b)) (preorder d (indexed form owner t))
     ∙ (λ i. serials-written form (suc d) (r .name) b i ++ serials-written form d owner t i))
 
 serials-are : (next : ℕ) (t : Forest Row) → serialsFit next (serials t) ≡ goodSerials next t
@@ -95,7 +95,7 @@ module _ (f : FlatStore) (fit : FieldsFit (valueWidth (f .version)) f) (bodies :
   checks→ g e =
       let s : Good (unflat f) = good-is (unflat f) .0 g in
       let ok : wellFormed (valueWidth (f .version)) (formOf f) ≡ true = well-formed (valueWidth (f .version)) (formOf f) .1 (s .form) in
-      let rows : flatten 0 (indexed (formOf f) [] (unflat f .docs)) ≡ f .rows = ap (λ (z : FlatStore). z .rows) e in
+      let rows : preorder 0 (indexed (formOf f) [] (unflat f .docs)) ≡ f .rows = ap (λ (z : FlatStore). z .rows) e in
       record {
         version = s .version;
         ceilings = ap withinCeilings (sym e) ∙ s .ceilings;
@@ -129,8 +129,8 @@ module _ (f : FlatStore) (fit : FieldsFit (valueWidth (f .version)) f) (bodies :
           rows = reads .rows i;
         }
 
-    whole : flatten 0 (build (f .rows) 0) ≡ f .rows
-    whole = ap (λ (xs : List (Deep FlatRow)). flatten 0 (build xs 0)) (sym (c .documents .rows)) ∙ ap (λ (t : Forest FlatRow). flatten 0 t) (build-flatten (c .documents .docs)) ∙ c .documents .rows
+    whole : preorder 0 (build (f .rows) 0) ≡ f .rows
+    whole = ap (λ (xs : List (Deep FlatRow)). preorder 0 (build xs 0)) (sym (c .documents .rows)) ∙ ap (λ (t : Forest FlatRow). preorder 0 t) (build-preorder (c .documents .docs)) ∙ c .documents .rows
 
     laid : EveryRow (λ r below. laidRow (valueWidth (f .version)) r ≡ true) (unflat f .docs)
     laid =

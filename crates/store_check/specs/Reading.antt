@@ -9,7 +9,7 @@ use lib.ListN.{length, take, drop, getD}
 use Rattle.rules.specs.Bytes.{Bytes, numbers, all}
 use Rattle.rules.specs.Model.{names, rename, distinct}
 use Rattle.rules.specs.Store.{Form, text, Row, Forest, members}
-use Rattle.rules.specs.Preorder.{Deep, flatten, build}
+use Rattle.rules.specs.Preorder.{Deep, preorder, build}
 use Rattle.rules.specs.Layout.{valueWidth, FlatDefinition, FlatParticle, FlatAttribute, FlatRow, FlatStore, kindCode, allAttributes, indexed}
 use Rattle.rules.specs.Decode.{nameAt, sortOf, unflat}
 use Rattle.rules.specs.WellFormed.{storedName, isValue, highestNumber, withinCeilings, definitionName, Reaches, isFill}
@@ -97,7 +97,7 @@ pub record RowFits (w : ℕ) (x : FlatRow) : Type 0 where
 
 -- documents that are written as the rows xs, and conform in a store of a version
 pub record ReadsAs (version : ℕ) (form : Form) (xs : List (Deep FlatRow)) (docs : Forest Row) : Type 0 where
-  pub rows : flatten 0 (indexed form [] docs) ≡ xs
+  pub rows : preorder 0 (indexed form [] docs) ≡ xs
   pub conforming : Conforming version form docs
   pub unnamed : EveryRow (λ r below. r .sort ≡ text → r .name ≡ []) docs
 

@@ -9,7 +9,7 @@ use lib.ListN.{length, length-map}
 use borrow.Author.Tests.{leb-true}
 use Rattle.rules.specs.Bytes.{Bytes, all}
 use Rattle.rules.specs.Store.{Form, RowSort, element, attribute, text, Row, Forest, bare, tree, Store}
-use Rattle.rules.specs.Preorder.{Deep, flatten}
+use Rattle.rules.specs.Preorder.{Deep, preorder}
 use Rattle.rules.specs.Layout.{FlatRow, flat, flatDefinition, allAttributes, attributeIndex, rowIndex, indexOf, indexed}
 use Rattle.rules.specs.Passing.{serials, good}
 use Rattle.rules.proofs.Words.{and-split}
@@ -37,12 +37,12 @@ abbrev Fields : Deep FlatRow → Type 0
 Fields x = (1 ≤ x .row .serial) × (x .row .index ≤ 64)
 
 fields : (form : Form) (next : ℕ) → length form ≤ 64 → length (allAttributes 0 form) ≤ 64 → (owner : Bytes) (depth : ℕ) (f : Forest Row)
-    → all (λ k. leb 1 k && ltb k next) (serials f) ≡ true → Every Fields (flatten depth (indexed form owner f))
+    → all (λ k. leb 1 k && ltb k next) (serials f) ≡ true → Every Fields (preorder depth (indexed form owner f))
 fields form next h k owner depth bare n = tt
 fields form next h k owner depth (tree r b t) n =
     let (n₀, n₁) = and-split (leb 1 (r .serial) && ltb (r .serial) next) _ n in (
       (leb-true 1 (r .serial) (and-split (leb 1 (r .serial)) _ n₀ .0), row-few form owner r h k),
-      every-append Fields (flatten (suc depth) (indexed form (r .name) b)) (flatten depth (indexed form owner t))
+      every-append Fields (preorder (suc depth) (indexed form (r .name) b)) (preorder depth (indexed form owner t))
           (fields form next h k (r .name) (suc depth) b (all-left (λ k. leb 1 k && ltb k next) (serials b) (serials t) n₁))
           (fields form next h k owner depth t (all-right (λ k. leb 1 k && ltb k next) (serials b) (serials t) n₁)),
     )

@@ -15,19 +15,19 @@ use Rattle.layout.proofs.RowLaws.{size-more}
 use Rattle.row_walk.specs.declared.Plan.{Plan}
 use Rattle.row_walk.specs.declared.Open.{Open}
 use Rattle.row_walk.specs.declared.Head.{Head}
-use Rattle.row_walk.specs.Walk.{isLater, spared, movedIndex, keptRow, gone, closes, closed, isBelow, isTaken, isFilled, taken, kept, owed, rowDepth, emitted, nextOpen, walked}
-use Rattle.row_walk.specs.Step.{rowOfHead, bare, keptWith, endsDue, isPlain, Fair}
+use Rattle.row_walk.specs.Walk.{isLater, spared, movedIndex, keptRow, isBelowTaken, closes, closed, isBelow, isTaken, isFilled, afterTaken, afterKept, owed, rowDepth, emitted, nextOpen, walked}
+use Rattle.row_walk.specs.Step.{rowOfHead, valueless, keptWith, endsDue, isPlain, Fair}
 use Rattle.walk_writer.specs.Step.{stepRows, stepOpen, Near, WalkRow, WalkRows, PlainRows}
 use Rattle.walk_writer.proofs.StepLaws.{due-stays, taken-any, filled-any, kept-any, seen, near-step}
 use Rattle.walk_writer.proofs.WalkLaws.{rows-first, rows-rest, walked-cons}
 
 -- ---- one row
 record Plain (p : Plan) (o : Open) (h : Head) : Type 0 where
-  pub stands : gone o (bare h) ≡ false
-  pub closing : (closes o (bare h) && o .due) ≡ false
-  pub due : endsDue p (closed o (bare h)) (bare h) ≡ false
-  pub stays : isTaken p (closed o (bare h)) (bare h) ≡ false
-  pub index : movedIndex p (bare h .row) ≡ h .index
+  pub stands : isBelowTaken o (valueless h) ≡ false
+  pub closing : (closes o (valueless h) && o .due) ≡ false
+  pub due : endsDue p (closed o (valueless h)) (valueless h) ≡ false
+  pub stays : isTaken p (closed o (valueless h)) (valueless h) ≡ false
+  pub index : movedIndex p (valueless h .row) ≡ h .index
   pub value : eqb (h .serial) (p .set) ≡ false
 
 plain-split : (g c d t i s : Bool) → ((not g && not (c || d)) && (not t && (i && not s))) ≡ true
@@ -40,12 +40,13 @@ plain-split false false false false false s e = absurd (false≢true e)
 plain-split false false false false true true e = absurd (false≢true e)
 plain-split false false false false true false e = (refl, refl, refl, refl, refl, refl)
 
-plain-of : (p : Plan) (o : Open) (h : Head) → isPlain p o (bare h) ≡ true → Plain p o h
+plain-of : (p : Plan) (o : Open) (h : Head) → isPlain p o (valueless h) ≡ true → Plain p o h
 unfolding isPlain
 plain-of p o h e =
-    let (g, c, d, t, i, s) = plain-split (gone o (bare h)) (closes o (bare h) && o .due) (endsDue p (closed o (bare h)) (bare h)) (isTaken p (closed o (bare h)) (bare h))
-    (eqb (movedIndex p (bare h .row)) (h .index)) (eqb (h .serial) (p .set)) e in
-    record { stands = g; closing = c; due = d; stays = t; index = eqb-eq (movedIndex p (bare h .row)) (h .index) i; value = s }
+    let after-closing = closed o (valueless h) in
+    let (g, c, d, t, i, s) = plain-split (isBelowTaken o (valueless h)) (closes o (valueless h) && o .due) (endsDue p after-closing (valueless h)) (isTaken p after-closing (valueless h))
+    (eqb (movedIndex p (valueless h .row)) (h .index)) (eqb (h .serial) (p .set)) e in
+    record { stands = g; closing = c; due = d; stays = t; index = eqb-eq (movedIndex p (valueless h .row)) (h .index) i; value = s }
 
 -- no filling comes before a row that does not end what is due
 none-before : (a l s : Bool) → (a && l) ≡ false → (a && (l && s)) ≡ false
@@ -60,20 +61,20 @@ module _ (p : Plan) (v : Bytes) (fill : ℕ → List (Deep FlatRow)) (o : Open) 
       ap₂ (λ (i : ℕ) (y : Bytes). rowOfHead (record { depth = h .depth; sort = h .sort; index = i; serial = h .serial }) y) (e .index)
       (ap (λ (b : Bool). elim b as (λ z. Bytes) [ true ↦ v | false ↦ u ]) (e .value))
 
-  none-filled : isFilled p (closed o (bare h)) (rowOfHead h u) ≡ false
+  none-filled : isFilled p (closed o (valueless h)) (rowOfHead h u) ≡ false
   none-filled =
-      filled-any p (closed o (bare h)) h u
-      ∙ none-before (closed o (bare h) .due && isBelow (closed o (bare h)) (bare h)) (isLater (p .marks) (p .later) (bare h .row)) (not (spared p (bare h .row))) (e .due)
+      filled-any p (closed o (valueless h)) h u
+      ∙ none-before (closed o (valueless h) .due && isBelow (closed o (valueless h)) (valueless h)) (isLater (p .marks) (p .later) (valueless h .row)) (not (spared p (valueless h .row))) (e .due)
 
-  emitted-same : emitted p v fill (closed o (bare h)) (rowOfHead h u) ≡ rowOfHead h u ∷ []
+  emitted-same : emitted p v fill (closed o (valueless h)) (rowOfHead h u) ≡ rowOfHead h u ∷ []
   unfolding emitted
   emitted-same =
       ap
       (λ (b : Bool). elim b as (λ z. List (Deep FlatRow)) [
         | true ↦ []
-        | false ↦ owed (isFilled p (closed o (bare h)) (rowOfHead h u)) (fill (h .depth)) ++ keptRow p v (rowOfHead h u) ∷ []
+        | false ↦ owed (isFilled p (closed o (valueless h)) (rowOfHead h u)) (fill (h .depth)) ++ keptRow p v (rowOfHead h u) ∷ []
       ])
-      (taken-any p (closed o (bare h)) h u ∙ e .stays)
+      (taken-any p (closed o (valueless h)) h u ∙ e .stays)
       ∙ ap (λ (b : Bool). owed b (fill (h .depth)) ++ keptRow p v (rowOfHead h u) ∷ []) none-filled
       ∙ ap (λ (x : Deep FlatRow). x ∷ []) kept-same
 
@@ -83,21 +84,21 @@ module _ (p : Plan) (v : Bytes) (fill : ℕ → List (Deep FlatRow)) (o : Open) 
       ap
       (λ (b : Bool). elim b as (λ z. List (Deep FlatRow)) [
         | true ↦ []
-        | false ↦ owed (closes o (bare h) && o .due) (fill (rowDepth o)) ++ emitted p v fill (closed o (bare h)) (rowOfHead h u)
+        | false ↦ owed (closes o (valueless h) && o .due) (fill (rowDepth o)) ++ emitted p v fill (closed o (valueless h)) (rowOfHead h u)
       ])
       (e .stands)
-      ∙ ap (λ (b : Bool). owed b (fill (rowDepth o)) ++ emitted p v fill (closed o (bare h)) (rowOfHead h u)) (e .closing)
+      ∙ ap (λ (b : Bool). owed b (fill (rowDepth o)) ++ emitted p v fill (closed o (valueless h)) (rowOfHead h u)) (e .closing)
       ∙ emitted-same
 
-  open-same : stepOpen p v fill o (rowOfHead h u) ≡ keptWith p (closed o (bare h) .due) (closed o (bare h)) (bare h)
+  open-same : stepOpen p v fill o (rowOfHead h u) ≡ keptWith p (closed o (valueless h) .due) (closed o (valueless h)) (valueless h)
   unfolding stepOpen nextOpen
   open-same =
-      ap (λ (b : Bool). elim b as (λ z. Open) [ true ↦ o | false ↦ nextOpen p v fill (closed o (bare h)) (rowOfHead h u) ]) (e .stands)
-      ∙ ap (λ (b : Bool). elim b as (λ z. Open) [ true ↦ taken (closed o (bare h)) (rowOfHead h u) | false ↦ kept p (closed o (bare h)) (rowOfHead h u) ])
-      (taken-any p (closed o (bare h)) h u ∙ e .stays)
-      ∙ kept-any p (closed o (bare h)) h u
-      ∙ ap (λ (d : Bool). keptWith p d (closed o (bare h)) (bare h))
-      (sym (due-stays (closed o (bare h) .due) (isBelow (closed o (bare h)) (bare h)) (isLater (p .marks) (p .later) (bare h .row)) (e .due)))
+      ap (λ (b : Bool). elim b as (λ z. Open) [ true ↦ o | false ↦ nextOpen p v fill (closed o (valueless h)) (rowOfHead h u) ]) (e .stands)
+      ∙ ap (λ (b : Bool). elim b as (λ z. Open) [ true ↦ afterTaken (closed o (valueless h)) (rowOfHead h u) | false ↦ afterKept p (closed o (valueless h)) (rowOfHead h u) ])
+      (taken-any p (closed o (valueless h)) h u ∙ e .stays)
+      ∙ kept-any p (closed o (valueless h)) h u
+      ∙ ap (λ (d : Bool). keptWith p d (closed o (valueless h)) (valueless h))
+      (sym (due-stays (closed o (valueless h) .due) (isBelow (closed o (valueless h)) (valueless h)) (isLater (p .marks) (p .later) (valueless h .row)) (e .due)))
 
 -- ---- rows
 module _ (w : ℕ) (p : Plan) where
@@ -105,7 +106,7 @@ module _ (w : ℕ) (p : Plan) where
   plain-none t m o n = record { few = omega arith; near = n; same = λ v fill xs. refl }
 
   module _ (t : Bytes) (m : ℕ) (o : Open) (h : Head) (is : rowOfHead h (readRow (take (rowSize w) t) .row .value) ≡ readRow (take (rowSize w) t))
-      (e : isPlain p o (bare h) ≡ true) (o′ : Open) (eo : o′ ≡ keptWith p (closed o (bare h) .due) (closed o (bare h)) (bare h)) where
+      (e : isPlain p o (valueless h) ≡ true) (o′ : Open) (eo : o′ ≡ keptWith p (closed o (valueless h) .due) (closed o (valueless h)) (valueless h)) where
     module _ (v : Bytes) (fill : ℕ → List (Deep FlatRow)) where
       plain : Plain p o h
       plain = plain-of p o h e
@@ -165,13 +166,13 @@ module _ {w : ℕ} {p : Plan} where
     pub staying-fair : 0 < m → (k : ℕ) → k ≡ rowSize w → {h : Head} → rowOfHead h (readRow (take k t) .row .value) ≡ readRow (take k t) → Fair h
     staying-fair l k e is = seen (subst (λ (i : ℕ). WalkRow w (take i t)) (sym e) (rows-first w m t l (g .old))) is .fair
 
-    pub staying-step : 0 < m → (k : ℕ) → k ≡ rowSize w → {h : Head} → rowOfHead h (readRow (take k t) .row .value) ≡ readRow (take k t) → isPlain p q (bare h) ≡ true → {u q′ : Open}
-        → u ≡ closed q (bare h) → q′ ≡ keptWith p (u .due) u (bare h)
+    pub staying-step : 0 < m → (k : ℕ) → k ≡ rowSize w → {h : Head} → rowOfHead h (readRow (take k t) .row .value) ≡ readRow (take k t) → isPlain p q (valueless h) ≡ true → {u q′ : Open}
+        → u ≡ closed q (valueless h) → q′ ≡ keptWith p (u .due) u (valueless h)
         → Staying w p rows most o (take (length t - k) (drop k t)) (m - 1) q′
     staying-step l k ek {h} is e {u} {q′} eu eq = rw (tail-seen t k, ek) (went (rw ek at is))
       where
-        opens : q′ ≡ keptWith p (closed q (bare h) .due) (closed q (bare h)) (bare h)
-        opens = eq ∙ ap (λ (z : Open). keptWith p (z .due) z (bare h)) eu
+        opens : q′ ≡ keptWith p (closed q (valueless h) .due) (closed q (valueless h)) (valueless h)
+        opens = eq ∙ ap (λ (z : Open). keptWith p (z .due) z (valueless h)) eu
 
         went : rowOfHead h (readRow (take (rowSize w) t) .row .value) ≡ readRow (take (rowSize w) t) → Staying w p rows most o (drop (rowSize w) t) (m - 1) q′
         went is =

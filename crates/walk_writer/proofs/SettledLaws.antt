@@ -17,7 +17,7 @@ use Rattle.filling.specs.Parts.{valueIn, membersReadAt, defsIn, partsIn, attrsI
 use Rattle.filling.proofs.DepthLaws.{filling-empty}
 use Rattle.row_walk.specs.declared.Plan.{Plan}
 use Rattle.row_walk.specs.declared.Open.{Open}
-use Rattle.row_walk.specs.Walk.{keptRow, gone, closes, closed, owed, rowDepth, emitted, nextOpen, walked, atFirst}
+use Rattle.row_walk.specs.Walk.{keptRow, isBelowTaken, closes, closed, owed, rowDepth, emitted, nextOpen, walked, atFirst}
 use Rattle.plan_numbers.specs.Refilled.{refilled}
 use Rattle.walk_writer.specs.Step.{fillLent, ReadyIn, Settled}
 
@@ -36,7 +36,7 @@ module _ (p : Plan) (what : Filling) (v : Bytes) (fill : ℕ → List (Deep Flat
   pub walked-refilled : (o : Open) (xs : List (Deep FlatRow)) → walked (refilled p what) v fill o xs ≡ walked p v fill o xs
   unfolding walked emitted nextOpen keptRow
   walked-refilled o [] = refl
-  walked-refilled o (x ∷ xs) = λ i. elim (gone o x) [
+  walked-refilled o (x ∷ xs) = λ i. elim (isBelowTaken o x) [
     | true ↦ walked-refilled o xs i
     | false ↦ owed (closes o x && o .due) (fill (rowDepth o)) ++ (emitted p v fill (closed o x) x ++ walked-refilled (nextOpen p v fill (closed o x) x) xs i)
   ]

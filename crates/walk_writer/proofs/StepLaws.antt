@@ -22,8 +22,9 @@ use Rattle.row_walk.specs.declared.Plan.{Plan}
 use Rattle.row_walk.specs.declared.Open.{Open}
 use Rattle.row_walk.specs.declared.Head.{Head}
 use Rattle.walk_writer.specs.declared.Stepped.{Stepped}
-use Rattle.row_walk.specs.Walk.{matches, isEverything, isLater, spared, movedIndex, keptRow, gone, closes, closed, isBelow, isTaken, isFilled, taken, kept, owed, rowDepth, emitted, nextOpen}
-use Rattle.row_walk.specs.Step.{rowOfHead, bare, staysDue, keptWith}
+use Rattle.row_walk.specs.Walk.{matches, isEverything, isLater, spared, movedIndex, keptRow, isBelowTaken, closes, closed, isBelow, isTaken, isFilled}
+use Rattle.row_walk.specs.Walk.{afterTaken, afterKept, owed, rowDepth, emitted, nextOpen}
+use Rattle.row_walk.specs.Step.{rowOfHead, valueless, staysDue, keptWith}
 use Rattle.walk_writer.specs.Step.{rowRewritten, stepRows, stepOpen, Came, Ready, Near, WalkRow, Seen}
 
 -- ---- reading
@@ -42,11 +43,11 @@ due-stays true true true e = absurd (false≢true (sym e))
 pub due-still : (d b l : Bool) → (d && b) ≡ false → d ≡ (d && not (b && l))
 due-still d b l e = due-stays d b l (ap (λ (z : Bool). z && l) e)
 
-pub kept-due : (p : Plan) (o : Open) (h : Head) {d : Bool} {k : Open} → k ≡ keptWith p d o (bare h) → d ≡ staysDue p o (bare h) → k ≡ kept p o (bare h)
-kept-due p o h e ed = e ∙ ap (λ (d : Bool). keptWith p d o (bare h)) ed
+pub kept-due : (p : Plan) (o : Open) (h : Head) {d : Bool} {k : Open} → k ≡ keptWith p d o (valueless h) → d ≡ staysDue p o (valueless h) → k ≡ afterKept p o (valueless h)
+kept-due p o h e ed = e ∙ ap (λ (d : Bool). keptWith p d o (valueless h)) ed
 
 -- ---- no test looks at a row's value
-pub matches-any : (w : Which) (h : Head) (u : Bytes) → matches w (rowOfHead h u .row) ≡ matches w (bare h .row)
+pub matches-any : (w : Which) (h : Head) (u : Bytes) → matches w (rowOfHead h u .row) ≡ matches w (valueless h .row)
 matches-any Nothing h u = refl
 matches-any Everything h u = refl
 matches-any Ground h u = refl
@@ -54,20 +55,20 @@ matches-any (Elements i) h u = refl
 matches-any (Attributes j) h u = refl
 matches-any (Serial k) h u = refl
 
-later-any : (m : Bytes) (l : Later) (h : Head) (u : Bytes) → isLater m l (rowOfHead h u .row) ≡ isLater m l (bare h .row)
+later-any : (m : Bytes) (l : Later) (h : Head) (u : Bytes) → isLater m l (rowOfHead h u .row) ≡ isLater m l (valueless h .row)
 later-any m Never h u = refl
 later-any m (Row k) h u = refl
 later-any m (Past j) h u = refl
 later-any m Unmarked h u = refl
 
 module _ (p : Plan) (o : Open) (h : Head) (u : Bytes) where
-  pub taken-any : isTaken p o (rowOfHead h u) ≡ isTaken p o (bare h)
-  taken-any = ap (λ (b : Bool). ((isEverything (p .above) || isBelow o (bare h)) && b) && not (p .keeps && o .due)) (matches-any (p .takes) h u)
+  pub taken-any : isTaken p o (rowOfHead h u) ≡ isTaken p o (valueless h)
+  taken-any = ap (λ (b : Bool). ((isEverything (p .above) || isBelow o (valueless h)) && b) && not (p .keeps && o .due)) (matches-any (p .takes) h u)
 
-  pub filled-any : isFilled p o (rowOfHead h u) ≡ isFilled p o (bare h)
-  filled-any = ap (λ (b : Bool). (o .due && isBelow o (bare h)) && (b && not (spared p (bare h .row)))) (later-any (p .marks) (p .later) h u)
+  pub filled-any : isFilled p o (rowOfHead h u) ≡ isFilled p o (valueless h)
+  filled-any = ap (λ (b : Bool). (o .due && isBelow o (valueless h)) && (b && not (spared p (valueless h .row)))) (later-any (p .marks) (p .later) h u)
 
-  pub kept-any : kept p o (rowOfHead h u) ≡ kept p o (bare h)
+  pub kept-any : afterKept p o (rowOfHead h u) ≡ afterKept p o (valueless h)
   kept-any = ap₂ opened (matches-any (p .above) h u) (later-any (p .marks) (p .later) h u)
     where
       opened : Bool → Bool → Open
@@ -77,7 +78,7 @@ module _ (p : Plan) (o : Open) (h : Head) (u : Bytes) where
           taking = 0;
           below = o .below;
           due = o .due && not
-              (isBelow o (bare h) && f);
+              (isBelow o (valueless h) && f);
         }
       ]
 
@@ -101,7 +102,7 @@ module _ {w : ℕ} {valued : Bool} (index : ℕ) (v row : Bytes) {c r : Cursor} 
   pub with-own : valued ≡ false → Written w (reindexedRow index row ∷ []) c out r out′ → Written w (rowRewritten valued index v row ∷ []) c out r out′
   with-own e p = written-as (ap (λ (b : Bool). rowRewritten b index v row ∷ []) e) p
 
-module _ {w : ℕ} (p : Plan) (v : Bytes) (h : Head) (row : Bytes) (s : Seen w h row) (index : ℕ) (e : index ≡ movedIndex p (bare h .row)) where
+module _ {w : ℕ} (p : Plan) (v : Bytes) (h : Head) (row : Bytes) (s : Seen w h row) (index : ℕ) (e : index ≡ movedIndex p (valueless h .row)) where
   moved-as : index ≡ movedIndex p (readRow row .row)
   moved-as = e ∙ ap (λ (x : Deep FlatRow). movedIndex p (x .row)) (s .is)
 
@@ -126,22 +127,22 @@ seen r e =
 
 -- ---- what comes of a row
 module _ {w : ℕ} (p : Plan) (v : Bytes) (fill : ℕ → List (Deep FlatRow)) (o : Open) (h : Head) (row : Bytes) (s : Seen w h row) where
-  module _ (b : Bool) (e : b ≡ isTaken p o (bare h)) where
+  module _ (b : Bool) (e : b ≡ isTaken p o (valueless h)) where
     is-taken : isTaken p o (readRow row) ≡ b
     is-taken = ap (isTaken p o) (sym (s .is)) ∙ taken-any p o h (readRow row .row .value) ∙ sym e
 
-    pub came-taken : {c : Cursor} {out : Bytes} → b ≡ true → (t : Open) → t ≡ taken o (bare h)
+    pub came-taken : {c : Cursor} {out : Bytes} → b ≡ true → (t : Open) → t ≡ afterTaken o (valueless h)
         → Came w (emitted p v fill o (readRow row)) (nextOpen p v fill o (readRow row)) c out (record { cursor = c; opened = t }) out
     unfolding emitted nextOpen
     came-taken q t g =
         record {
           written = written-as (ap (λ (z : Bool). elim z [ true ↦ [] | false ↦ owed (isFilled p o (readRow row)) (fill (readRow row .depth)) ++ keptRow p v (readRow row) ∷ [] ])
               (is-taken ∙ q)) written-none;
-          opened = g ∙ ap (taken o) (s .is) ∙ ap (λ (z : Bool). elim z [ true ↦ taken o (readRow row) | false ↦ kept p o (readRow row) ]) (sym (is-taken ∙ q));
+          opened = g ∙ ap (afterTaken o) (s .is) ∙ ap (λ (z : Bool). elim z [ true ↦ afterTaken o (readRow row) | false ↦ afterKept p o (readRow row) ]) (sym (is-taken ∙ q));
         }
 
-    pub came-kept : {c d r : Cursor} {out out₁ out′ : Bytes} → b ≡ false → (f : Bool) → f ≡ isFilled p o (bare h) → Written w (owed f (fill (h .depth))) c out d out₁
-        → Written w (keptRow p v (readRow row) ∷ []) d out₁ r out′ → (k : Open) → k ≡ kept p o (bare h)
+    pub came-kept : {c d r : Cursor} {out out₁ out′ : Bytes} → b ≡ false → (f : Bool) → f ≡ isFilled p o (valueless h) → Written w (owed f (fill (h .depth))) c out d out₁
+        → Written w (keptRow p v (readRow row) ∷ []) d out₁ r out′ → (k : Open) → k ≡ afterKept p o (valueless h)
         → Came w (emitted p v fill o (readRow row)) (nextOpen p v fill o (readRow row)) c out (record { cursor = r; opened = k }) out′
     unfolding emitted nextOpen
     came-kept q f ef w₁ w₂ k g =
@@ -153,21 +154,22 @@ module _ {w : ℕ} (p : Plan) (v : Bytes) (fill : ℕ → List (Deep FlatRow)) (
               (ap (λ (z : Bool). elim z [ true ↦ [] | false ↦ owed (isFilled p o (readRow row)) (fill (readRow row .depth)) ++ keptRow p v (readRow row) ∷ [] ]) (is-taken ∙ q)
               ∙ ap₂ (λ (z : Bool) (d : ℕ). owed z (fill d) ++ keptRow p v (readRow row) ∷ []) filled deep)
               (written-then w₁ w₂);
-          opened = g ∙ sym (kept-any p o h (readRow row .row .value)) ∙ ap (kept p o) (s .is) ∙ ap (λ (z : Bool). elim z [ true ↦ taken o (readRow row) | false ↦ kept p o (readRow row) ])
+          opened = g ∙ sym (kept-any p o h (readRow row .row .value)) ∙ ap (afterKept p o) (s .is)
+              ∙ ap (λ (z : Bool). elim z [ true ↦ afterTaken o (readRow row) | false ↦ afterKept p o (readRow row) ])
               (sym (is-taken ∙ q));
         }
 
     -- nothing is due right below
-    pub came-still : {c r : Cursor} {out out′ : Bytes} → b ≡ false → (o .due && isBelow o (bare h)) ≡ false
-        → Written w (keptRow p v (readRow row) ∷ []) c out r out′ → (k : Open) → k ≡ kept p o (bare h)
+    pub came-still : {c r : Cursor} {out out′ : Bytes} → b ≡ false → (o .due && isBelow o (valueless h)) ≡ false
+        → Written w (keptRow p v (readRow row) ∷ []) c out r out′ → (k : Open) → k ≡ afterKept p o (valueless h)
         → Came w (emitted p v fill o (readRow row)) (nextOpen p v fill o (readRow row)) c out (record { cursor = r; opened = k }) out′
     came-still q n x k g =
-        let none : false ≡ isFilled p o (bare h) = sym (ap (λ (z : Bool). z && (isLater (p .marks) (p .later) (bare h .row) && not (spared p (bare h .row)))) n) in
+        let none : false ≡ isFilled p o (valueless h) = sym (ap (λ (z : Bool). z && (isLater (p .marks) (p .later) (valueless h .row) && not (spared p (valueless h .row)))) n) in
         came-kept q false none (owed-none (fill (h .depth)) refl) x k g
 
-  module _ (g : Bool) (e : g ≡ gone o (bare h)) where
-    is-gone : gone o (readRow row) ≡ g
-    is-gone = ap (gone o) (sym (s .is)) ∙ sym e
+  module _ (g : Bool) (e : g ≡ isBelowTaken o (valueless h)) where
+    is-gone : isBelowTaken o (readRow row) ≡ g
+    is-gone = ap (isBelowTaken o) (sym (s .is)) ∙ sym e
 
     pub step-gone : {c : Cursor} {out : Bytes} → g ≡ true → Came w (stepRows p v fill o (readRow row)) (stepOpen p v fill o (readRow row)) c out (record { cursor = c; opened = o }) out
     unfolding stepRows stepOpen
@@ -179,7 +181,7 @@ module _ {w : ℕ} (p : Plan) (v : Bytes) (fill : ℕ → List (Deep FlatRow)) (
           opened = ap (λ (z : Bool). elim z [ true ↦ o | false ↦ nextOpen p v fill (closed o (readRow row)) (readRow row) ]) (sym (is-gone ∙ q));
         }
 
-    pub step-on : {c d : Cursor} {r : Stepped} {out out₁ out′ : Bytes} → g ≡ false → (z : Bool) → z ≡ closes o (bare h) → (k : ℕ) → k ≡ o .below - 1 → (u : Open) → u ≡ closed o (bare h)
+    pub step-on : {c d : Cursor} {r : Stepped} {out out₁ out′ : Bytes} → g ≡ false → (z : Bool) → z ≡ closes o (valueless h) → (k : ℕ) → k ≡ o .below - 1 → (u : Open) → u ≡ closed o (valueless h)
         → Written w (owed (z && o .due) (fill k)) c out d out₁
         → Came w (emitted p v fill u (readRow row)) (nextOpen p v fill u (readRow row)) d out₁ r out′ → Came w (stepRows p v fill o (readRow row)) (stepOpen p v fill o (readRow row)) c out r out′
     unfolding stepRows stepOpen
@@ -215,4 +217,4 @@ module _ (p : Plan) (v : Bytes) (fill : ℕ → List (Deep FlatRow)) (o : Open) 
 
 pub near-step : (p : Plan) (v : Bytes) (fill : ℕ → List (Deep FlatRow)) (o : Open) (x : Deep FlatRow) → Near o → x .depth ≤ 80 → Near (stepOpen p v fill o x)
 unfolding stepOpen
-near-step p v fill o x n l = near-if (gone o x) n (near-onward p v fill (closed o x) x (near-closed p v fill o x n) l)
+near-step p v fill o x n l = near-if (isBelowTaken o x) n (near-onward p v fill (closed o x) x (near-closed p v fill o x n) l)

@@ -24,7 +24,7 @@ use Rattle.row_walk.specs.declared.Open.{Open}
 use Rattle.walk_writer.specs.declared.Stepped.{Stepped}
 use Rattle.walk_writer.specs.declared.PlainRun.{PlainRun}
 use Rattle.walk_writer.specs.declared.Passed.{Passed}
-use Rattle.row_walk.specs.Walk.{gone, closes, closed, owed, rowDepth, emitted, nextOpen, walked, atFirst, namesGround}
+use Rattle.row_walk.specs.Walk.{isBelowTaken, closes, closed, owed, rowDepth, emitted, nextOpen, walked, atFirst, namesGround}
 use Rattle.walk_writer.specs.Step.{stepRows, stepOpen, Came, Near, WalkRow, WalkRows, PlainRows, WalkOn, Advances}
 use Rattle.walk_writer.proofs.StepLaws.{near-if, near-step}
 
@@ -86,7 +86,7 @@ module _ (w : ℕ) where
 module _ (p : Plan) (v : Bytes) (fill : ℕ → List (Deep FlatRow)) where
   pub walked-cons : (o : Open) (x : Deep FlatRow) (xs : List (Deep FlatRow)) → walked p v fill o (x ∷ xs) ≡ stepRows p v fill o x ++ walked p v fill (stepOpen p v fill o x) xs
   unfolding walked stepRows stepOpen
-  walked-cons o x xs = by (gone o x)
+  walked-cons o x xs = by (isBelowTaken o x)
     where
       by : (b : Bool) → elim b [
         | true ↦ walked p v fill o xs

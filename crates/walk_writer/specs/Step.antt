@@ -20,7 +20,7 @@ use Rattle.filling.specs.Parts.{valueIn, membersReadAt, defsIn, partsIn, attrsI
 use Rattle.row_walk.specs.declared.Plan.{Plan}
 use Rattle.row_walk.specs.declared.Open.{Open}
 use Rattle.row_walk.specs.declared.Head.{Head}
-use Rattle.row_walk.specs.Walk.{gone, closes, closed, owed, rowDepth, emitted, nextOpen, walked}
+use Rattle.row_walk.specs.Walk.{isBelowTaken, closes, closed, owed, rowDepth, emitted, nextOpen, walked}
 use Rattle.row_walk.specs.Step.{rowOfHead, Planned, Fair}
 use Rattle.walk_writer.specs.declared.Stepped.{Stepped}
 use Rattle.walk_writer.specs.declared.PlainRun.{PlainRun}
@@ -33,10 +33,10 @@ rowRewritten b index v row = valuedRow index (elim b [ true ↦ v | false ↦ re
 module _ (p : Plan) (v : Bytes) (fill : ℕ → List (Deep FlatRow)) where
   -- the rows that come of a row, and what is open after it
   unfoldable pub stepRows : Open → Deep FlatRow → List (Deep FlatRow)
-  stepRows o x = elim (gone o x) [ true ↦ [] | false ↦ owed (closes o x && o .due) (fill (rowDepth o)) ++ emitted p v fill (closed o x) x ]
+  stepRows o x = elim (isBelowTaken o x) [ true ↦ [] | false ↦ owed (closes o x && o .due) (fill (rowDepth o)) ++ emitted p v fill (closed o x) x ]
 
   unfoldable pub stepOpen : Open → Deep FlatRow → Open
-  stepOpen o x = elim (gone o x) [ true ↦ o | false ↦ nextOpen p v fill (closed o x) x ]
+  stepOpen o x = elim (isBelowTaken o x) [ true ↦ o | false ↦ nextOpen p v fill (closed o x) x ]
 
 -- the rows xs were written, and o is open after them
 pub record Came (w : ℕ) (xs : List (Deep FlatRow)) (o : Open) (c : Cursor) (out : Bytes) (r : Stepped) (out′ : Bytes) : Type 0 where

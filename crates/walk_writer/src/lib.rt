@@ -17,7 +17,7 @@ ghost use Rattle.row_writer.specs.Written.{Written, Room, OldRow};
 ghost use Rattle.filling.specs.Parts.{widthIn, countIn, sizeIn, Asks, Indexed};
 ghost use Rattle.row_walk.specs.Walk.{isTaken, owed, emitted, nextOpen, walked, atFirst};
 ghost use Rattle.row_walk.specs.Lent.{planIn};
-ghost use Rattle.row_walk.specs.Step.{rowOfHead, bare, Planned};
+ghost use Rattle.row_walk.specs.Step.{rowOfHead, valueless, Planned};
 ghost use Rattle.walk_writer.specs.Step.{rowRewritten, stepRows, stepOpen, Came, planFilling, fillIn, Settled, Ready, ReadyIn, Near, WalkRow, Seen, WalkRows, PlainRows, Advances};
 
 /// What has been written after a row, and what is open.
@@ -133,7 +133,7 @@ fn come_due(
     out: &mut [u8],
 ) -> Stepped
     requires { ⌜ ReadyIn (now sizes) (now text) (planIn (now p) (now marks)) × Seen (widthIn (now sizes)) h (now row) × Room (widthIn (now sizes)) c
-        × (isTaken (planIn (now p) (now marks)) o (bare h) ≡ false) ⌝ }
+        × (isTaken (planIn (now p) (now marks)) o (valueless h) ≡ false) ⌝ }
     ensures { λ r. ⌜ Came (widthIn (now (sizes .entry)))
         (emitted (planIn (now (p .entry)) (now (marks .entry))) (now (text .entry))
         (fillIn (now (sizes .entry)) (now (form .entry)) (planIn (now (p .entry)) (now (marks .entry))) (now (text .entry))) o (readRow (now (row .entry))))

@@ -161,6 +161,7 @@ static void refusals(void)
 {
     refuse("short store", formstore_destroy_definition(buffers[now], length - 1, CLUB, OUT), FORMSTORE_BAD_STORE);
     refuse("name of 17", formstore_create_definition(STORE, BYTES("seventeen-letters"), EMPTY, OUT), FORMSTORE_BAD_NAME);
+    refuse("name of XML", formstore_create_definition(STORE, BYTES("xMlTime"), EMPTY, OUT), FORMSTORE_BAD_NAME);
     refuse("value with a line feed", formstore_set_text(STORE, 5, BYTES("19\n04"), OUT), FORMSTORE_BAD_VALUE);
     refuse("kind 3", formstore_create_definition(STORE, BYTES("team"), 3, OUT), FORMSTORE_BAD_CODE);
     refuse("club again", formstore_create_definition(STORE, BYTES("club"), EMPTY, OUT), FORMSTORE_TAKEN);

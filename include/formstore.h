@@ -103,7 +103,8 @@ extern "C" {
 enum formstore_refusal {
     FORMSTORE_ACCEPTED = 0,
     FORMSTORE_BAD_STORE = 1,   /* the store does not pass the check */
-    FORMSTORE_BAD_NAME = 2,    /* a name has 1 to 16 bytes, first a letter or _, then also digits, - and . */
+    FORMSTORE_BAD_NAME = 2,    /* a name has 1 to 16 bytes, first a letter or _, then also digits, - and .; a new one
+                                * does not begin with x, m, l, each in either case, which XML 1.0 reserves */
     FORMSTORE_BAD_VALUE = 3,   /* a text or value has at most 32 bytes, each from blank to ~ (20 to 7E) */
     FORMSTORE_BAD_CODE = 4,    /* a kind, sort or quantifier is none of its enum's */
     FORMSTORE_TAKEN = 5,       /* the definition, or an attribute of this owner, exists under this name */

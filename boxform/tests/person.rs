@@ -114,6 +114,15 @@ const REFUSALS: &[(&str, &str)] = &[
         "(2, bad name): --name : it is empty",
     ),
     (
+        "create-definition club.form --name xmlTime --kind empty",
+        "(2, bad name): --name xmlTime: no new name begins with xml, in either case: XML 1.0 (2.3) \
+         reserves those",
+    ),
+    (
+        "add-attribute club.form --owner bib --name XML --sort implied",
+        "(2, bad name): --name XML: no new name begins with xml",
+    ),
+    (
         "set-text club.form --element 3 --text 123456789-123456789-123456789-123",
         "(3, bad value): --text 123456789-123456789-123456789-123: it has 33 characters, and at \
          most 32 can be",

@@ -39,7 +39,7 @@ macro_rules! refusals {
 
 refusals! {
     BadStore 1 "bad store" "the store does not pass the check"
-    BadName 2 "bad name" "a name has 1 to 16 bytes, first a letter or _, then also digits, - and ."
+    BadName 2 "bad name" "a name has 1 to 16 bytes, first a letter or _, then also digits, - and ., and does not begin with xml in either case"
     BadValue 3 "bad value" "a value or text has at most 32 bytes, each from blank to ~"
     BadCode 4 "bad code" "a kind, sort or quantifier is not among its numbers"
     Taken 5 "taken" "the name exists"

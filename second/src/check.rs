@@ -34,6 +34,11 @@ pub fn name_ok(name: &[u8]) -> bool {
         && name.iter().all(later)
 }
 
+/// XML 1.0 keeps names that begin with x, m, l, in either case, for itself.
+pub fn reserved(name: &[u8]) -> bool {
+    name.get(..3).is_some_and(|start| start.eq_ignore_ascii_case(b"xml"))
+}
+
 pub fn value_ok(value: &[u8]) -> bool {
     value.len() <= MAX_VALUE && value.iter().all(|byte| (0x20..=0x7e).contains(byte))
 }

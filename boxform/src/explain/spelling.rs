@@ -3,7 +3,7 @@
 use crate::given::listed;
 use formstore::{MAX_NAME, MAX_VALUE};
 
-/// Why this is no name; nothing, if it is one.
+/// Why this is no name for something new; nothing, if it is one.
 pub fn name(bytes: &[u8]) -> Option<String> {
     let text = String::from_utf8_lossy(bytes);
     let inner = |sign: char| sign.is_ascii_alphanumeric() || "_-.".contains(sign);
@@ -23,8 +23,15 @@ pub fn name(bytes: &[u8]) -> Option<String> {
             "a name begins with a letter or _, not with {}",
             sign_text(first)
         )),
-        _ => too_long(bytes, MAX_NAME),
+        _ => too_long(bytes, MAX_NAME).or_else(|| reserved(bytes)),
     }
+}
+
+/// Names that begin with xml are kept for the makers of XML.
+fn reserved(bytes: &[u8]) -> Option<String> {
+    let start = bytes.get(..3)?;
+    let text = "no new name begins with xml, in either case: XML 1.0 (2.3) reserves those";
+    start.eq_ignore_ascii_case(b"xml").then(|| text.to_string())
 }
 
 /// Why this is no value or text; nothing, if it is one.

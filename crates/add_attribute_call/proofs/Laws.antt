@@ -8,12 +8,12 @@ use lib.ListN.{length, take}
 use Rattle.rules.specs.Bytes.{Bytes}
 use Rattle.rules.specs.Layout.{FlatAttribute, FlatStore, flat}
 use Rattle.rules.specs.Decode.{numberAt, definitionCount, particleCount, attributeCount}
-use Rattle.rules.specs.WellFormed.{isName, isValue, withinCeilings}
+use Rattle.rules.specs.WellFormed.{givenName, isValue, withinCeilings}
 use Rattle.rules.specs.Passing.{passes}
 use Rattle.rules.specs.Change.{addAttribute, after}
 use Rattle.rules.specs.Refusal.{first, conditions}
 use Rattle.rules.specs.Outcome.{Answers}
-use Rattle.rules.proofs.DecodeLaws.{name-width, value-width}
+use Rattle.rules.proofs.DecodeLaws.{given-stored, name-width, value-width}
 use Rattle.change_laws.proofs.Conditions.{not-past, none-holds}
 use Rattle.codec.specs.Laid.{Laid}
 use Rattle.layout.specs.Bodies.{widthOf, Number, mostForm}
@@ -51,8 +51,8 @@ module _ (bs : Bytes) {b : Bool} {m : ℕ} (h : not b ≡ false) (e : b ≡ pass
       record {
         passes = passed bs h e;
         owner = omega (arith, not-past o (storeIn bs .form) index, w .fewDefinitions, w .agrees .size);
-        name = not-false (isName n) name;
-        short = name-width n (not-false (isName n) name);
+        name = given-stored n (not-false (givenName n) name);
+        short = name-width n (given-stored n (not-false (givenName n) name));
         sort = ltb-false 2 k code;
         value = value-given bs v value;
         few = value-width (widthOf bs) v (value-given bs v value);

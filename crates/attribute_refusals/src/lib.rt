@@ -51,7 +51,7 @@ pub fn add_attribute_refusal(store: &[u8], owner: u32, name: &[u8], sort: u32, v
     requires { ⌜ passes (now store) ≡ true ⌝ }
     ensures { λ r. ⌜ r ≡ first (conditions (addAttribute owner (now (name .entry)) sort (now (value .entry))) (storeIn (now (store .entry)))) ⌝ }
 {
-    if !records::stored_name(name) {
+    if !records::given_name(name) {
         return 2;
     }
     let w = layout::width_in(store);

@@ -3,7 +3,7 @@ ghost use mathlib.Core.Path.{_≡_};
 ghost use Prim.Native.Nat.{_+_, _≤_};
 ghost use lib.ListN.{length, take, drop};
 ghost use Rattle.rules.specs.Bytes.{all, between};
-ghost use Rattle.rules.specs.WellFormed.{startsName, inName};
+ghost use Rattle.rules.specs.WellFormed.{startsName, inName, reservedName};
 ghost use Rattle.byte_check.specs.Zeros.{zeros};
 
 // Whether the eight bytes from i on are 0.
@@ -79,6 +79,19 @@ pub fn all_in_name(s: &[u8]) -> bool
         i += 1;
     }
     true
+}
+
+/// Whether XML 1.0 reserves a name that begins with these bytes: the first three are x, m, l, each in either case.
+pub fn is_reserved(s: &[u8]) -> bool
+    ensures { λ r. ⌜ r ≡ reservedName (now (s .entry)) ⌝ }
+{
+    if s.len() < 3 {
+        return false;
+    }
+    let x = (s[0] == b'x') | (s[0] == b'X');
+    let m = (s[1] == b'm') | (s[1] == b'M');
+    let l = (s[2] == b'l') | (s[2] == b'L');
+    x & (m & l)
 }
 
 fn printable(x: u8) -> bool

@@ -4,6 +4,7 @@ pub mod FormLaws
 pub mod ModelAfter
 pub mod Replacing
 pub mod WellFormedAfter
+pub mod UnreservedAfter
 pub mod RowsBelow
 pub mod Rowwise
 pub mod StandingLaws

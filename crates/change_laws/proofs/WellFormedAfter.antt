@@ -24,6 +24,7 @@ use Rattle.rules.proofs.Children.{Sound}
 use Rattle.rules.proofs.TestLaws.{any-test, member-test}
 use Rattle.rules.proofs.Height.{reaches-test}
 use Rattle.rules.proofs.WellFormedLaws.{well-formed}
+use Rattle.rules.proofs.DecodeLaws.{given-stored}
 use Rattle.change_laws.proofs.Conditions.{not-past, unmet}
 use Rattle.change_laws.proofs.FormLaws.{definition-found, owner-below}
 use Rattle.change_laws.proofs.ModelAfter.{brings, Placed, placed-sound, placed-names, placed-insert, placed-remove, placed-quantify, placed-quantify-group, placed-convert, placed-flatten}
@@ -133,7 +134,7 @@ module _ (room : ℕ) (s : Store) (ok : wellFormed (valueWidth (s .version)) (s 
   unfolding formAfter conditions
   after-create n k a =
       let (name, (kind, (fresh, end))) = unmet room (createDefinition n k) s a in
-      added w (s .form) ok (record { name = n; content = contentOf k done; attributes = [] }) (fresh-good w n k (not-false (givenName n) name)) fresh
+      added w (s .form) ok (record { name = n; content = contentOf k done; attributes = [] }) (fresh-good w n k (given-stored n (not-false (givenName n) name))) fresh
 
   after-destroy : (i : ℕ) → refusal room (destroyDefinition i) s ≡ 0 → wellFormed w (formAfter (destroyDefinition i) (s .form)) ≡ true
   unfolding formAfter conditions
@@ -172,7 +173,7 @@ module _ (room : ℕ) (s : Store) (ok : wellFormed (valueWidth (s .version)) (s 
       let below : o < length (s .form) = not-past o (s .form) known in
       let g = old-good w (s .form) ok o below in
       let table : List Attribute = definitionAt o (s .form) .attributes in
-      let right : isAttributeOf w (newAttribute n k v) ≡ true = and-both (not-false (givenName n) name) (and-both (not-false (isValue w v) value) (fill-right k v default)) in
+      let right : isAttributeOf w (newAttribute n k v) ≡ true = and-both (given-stored n (not-false (givenName n) name)) (and-both (not-false (isValue w v) value) (fill-right k v default)) in
       table-replaced w (s .form) ok o below (λ t. t ++ newAttribute n k v ∷ [])
       (rw (map-append attributeName table (newAttribute n k v ∷ []))
       (distinct-last (map attributeName table) n (g .attributeNames)

@@ -10,11 +10,11 @@ use borrow.Author.Tests.{lt-ltb, le-ltb, ltb-false}
 use Rattle.rules.specs.Bytes.{Bytes, same}
 use Rattle.rules.specs.Store.{Form}
 use Rattle.rules.specs.Layout.{nameWidth, FlatStore, flatDefinition}
-use Rattle.rules.specs.WellFormed.{storedName, known, lookup}
+use Rattle.rules.specs.WellFormed.{givenName, known, lookup}
 use Rattle.rules.specs.Passing.{passes}
 use Rattle.rules.specs.Change.{createDefinition}
 use Rattle.rules.specs.Refusal.{first, conditions, _if_}
-use Rattle.rules.proofs.DecodeLaws.{name-width}
+use Rattle.rules.proofs.DecodeLaws.{name-width, given-stored}
 use Rattle.lookup.specs.Bodies.{bodiesOf}
 use Rattle.store_laws.specs.Stores.{storeIn}
 use Rattle.store_laws.proofs.StoreLaws.{holds}
@@ -40,14 +40,14 @@ module _ (bs n : Bytes) (k : ℕ) (p : passes bs ≡ true) where
   known-is : known (storeIn bs .form) n ≡ named n (bodiesOf bs .definitions)
   known-is = sym (known-named (storeIn bs .form) n (storeIn bs .form)) ∙ ap (λ (f : FlatStore). named n (f .definitions)) (sym (holds bs p .bodies))
 
-  condition-is : condition ≡ tests (storedName n) (ltb 2 k) (named n (bodiesOf bs .definitions))
+  condition-is : condition ≡ tests (givenName n) (ltb 2 k) (named n (bodiesOf bs .definitions))
   unfolding conditions
-  condition-is = ap (tests (storedName n) (ltb 2 k)) known-is
+  condition-is = ap (tests (givenName n) (ltb 2 k)) known-is
 
-  pub bad-name : {r : Bool} → r ≡ storedName n → r ≡ false → 2 ≡ condition
+  pub bad-name : {r : Bool} → r ≡ givenName n → r ≡ false → 2 ≡ condition
   bad-name e q = sym (condition-is ∙ ap (λ (z : Bool). tests z (ltb 2 k) (named n (bodiesOf bs .definitions))) (sym e ∙ q))
 
-  module _ {r : Bool} (e : r ≡ storedName n) (q : r ≡ true) where
+  module _ {r : Bool} (e : r ≡ givenName n) (q : r ≡ true) where
     good-name : condition ≡ tests true (ltb 2 k) (named n (bodiesOf bs .definitions))
     good-name = condition-is ∙ ap (λ (z : Bool). tests z (ltb 2 k) (named n (bodiesOf bs .definitions))) (sym e ∙ q)
 
@@ -69,11 +69,11 @@ module _ (bs n : Bytes) (k : ℕ) (p : passes bs ≡ true) where
     pub kind : k ≤ 2
 
   pub fresh : condition ≡ 0 → Fresh
-  fresh z = by (storedName n) refl (ltb 2 k) refl
+  fresh z = by (givenName n) refl (ltb 2 k) refl
     where
-      by : (a : Bool) → storedName n ≡ a → (b : Bool) → ltb 2 k ≡ b → Fresh
+      by : (a : Bool) → givenName n ≡ a → (b : Bool) → ltb 2 k ≡ b → Fresh
       by false e b f = absurd (omega (arith, bad-name (sym e) refl, z))
       by true e true f =
           let h : tests true true (named n (bodiesOf bs .definitions)) ≡ condition = sym (condition-is ∙ ap₂ (λ (x y : Bool). tests x y (named n (bodiesOf bs .definitions))) e f) in
           absurd (omega (arith, h, z))
-      by true e false f = record { name = name-width n e; kind = ltb-false 2 k f }
+      by true e false f = record { name = name-width n (given-stored n e); kind = ltb-false 2 k f }

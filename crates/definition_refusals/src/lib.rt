@@ -16,7 +16,7 @@ pub fn create_condition(store: &[u8], name: &[u8], kind: u32) -> u32
     requires { ⌜ passes (now store) ≡ true ⌝ }
     ensures { λ r. ⌜ r ≡ first (conditions (createDefinition (now (name .entry)) kind) (storeIn (now (store .entry)))) ⌝ }
 {
-    if !records::stored_name(name) {
+    if !records::given_name(name) {
         return 2;
     }
     if kind > 2 {

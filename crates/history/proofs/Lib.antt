@@ -16,3 +16,4 @@ pub mod OverHistory
 pub mod Theorem
 pub mod Accepted
 pub mod CallLaws
+pub mod ReservedNames

@@ -3,7 +3,7 @@ ghost use mathlib.Core.Path.{_≡_};
 ghost use lib.ListN.{take, drop};
 ghost use Rattle.rules.specs.Layout.{definitionSize, attributeSize};
 ghost use Rattle.rules.specs.Decode.{sortOf};
-ghost use Rattle.rules.specs.WellFormed.{storedName, isValue, isFill};
+ghost use Rattle.rules.specs.WellFormed.{storedName, givenName, isValue, isFill};
 ghost use Rattle.rules.specs.Conforming.{mustBePresent, allows};
 ghost use Rattle.rules.specs.Filling.{createdValue};
 ghost use Rattle.layout.specs.Bodies.{Width};
@@ -21,6 +21,14 @@ pub fn stored_name(s: &[u8]) -> bool
     byte_check::starts_name(s[0])
         & byte_check::all_in_name(codec::after(s, 1))
         & (s.len() <= layout::NAME_WIDTH)
+}
+
+/// Whether the bytes are a name that changes 1 and 9 take: one that may stand in a store and is not reserved.
+pub fn given_name(s: &[u8]) -> bool
+    ensures { λ r. ⌜ r ≡ givenName (now (s .entry)) ⌝ }
+{
+    let reserved = byte_check::is_reserved(s);
+    stored_name(s) & !reserved
 }
 
 /// Whether the bytes are a value.

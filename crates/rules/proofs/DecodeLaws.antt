@@ -27,7 +27,7 @@ use Rattle.rules.specs.Layout.{rowSize, indexOf, indexIn, attributeIndex
 use Rattle.rules.specs.Layout.{flatDefinition, allParticles, ownAttributes, allAttributes, rowIndex, indexed, flat, encode}
 use Rattle.rules.specs.Decode.{versionIn, readFlat, sized, nameAt, quantifierOf, contentOf, sortOf, rowSortOf, readMembers, ofOwner, readForm, rowName}
 use Rattle.rules.specs.Decode.{readRows, flatName, flatAttributeName, unflat, confirm, decode}
-use Rattle.rules.specs.WellFormed.{startsName, inName, isName, storedName, isValue, highestNumber, withinCeilings, definitionName, attributeName, lookup}
+use Rattle.rules.specs.WellFormed.{startsName, inName, isName, reservedName, storedName, givenName, isValue, highestNumber, withinCeilings, definitionName, attributeName, lookup}
 use Rattle.rules.specs.WellFormed.{isThere, known, reachesIn, isFill, isAttributeOf, goodDefinition, wellFormed}
 use Rattle.rules.specs.Conforming.{nameOf, EveryRow, isElement, isAttribute, isText, everyRow, mustBePresent, allows, strip, fits, fitsStripped, fitsDefinition, fitsRow, conforming}
 use Rattle.rules.specs.Passing.{knownVersion, laidRow, serials, goodSerials, good, goodRead, readStore, passes}
@@ -361,6 +361,14 @@ pub record DefinitionParts (w : ℕ) (form : Form) (d : Definition) : Type 0 whe
   pub model : Sound (members d)
   pub circle : not (reachesIn form (d .name) (d .name)) ≡ true
   pub attributes : Every (λ a. isAttributeOf w a ≡ true) (d .attributes)
+
+-- ---- paper 02, W1: the check's test of a name is that of paper 01 still; a change takes the names that pass it and are
+-- not reserved
+stored-as-before : (n : Bytes) → storedName n ≡ isName n
+stored-as-before n = refl
+
+pub given-stored : (n : Bytes) → givenName n ≡ true → storedName n ≡ true
+given-stored n e = stored-as-before n ∙ and-split (isName n) (not (reservedName n)) e .0
 
 pub definition-parts : (w : ℕ) (form : Form) (d : Definition) → goodDefinition w form d ≡ true → DefinitionParts w form d
 unfolding goodDefinition sound

@@ -21,7 +21,7 @@ use Rattle.rules.specs.Filling.{fillAttributes, fillEach, fillContent, f
 use Rattle.rules.specs.Place.{plug, kindAt, spine, beforePlace, around, afterMembers, find}
 use Rattle.rules.specs.Edit.{_⊕_, edited, place, placeOf}
 use Rattle.rules.specs.Lines.{findRow, childrenOf}
-use Rattle.rules.specs.Change.{Call, destroyDefinition, insertElement, removeElement, changeQuantifier, convertToGroup, changeGroupQuantifier}
+use Rattle.rules.specs.Change.{Call, createDefinition, addAttribute, destroyDefinition, insertElement, removeElement, changeQuantifier, convertToGroup, changeGroupQuantifier}
 use Rattle.rules.specs.Change.{setAttribute, destroyAttributeRow, definitionAt, attributeAt, formAfter, plan, prune, eachRow, plant, newRows, given}
 use Rattle.rules.specs.Change.{number, after}
 use Rattle.rules.specs.Refusal.{conditions, refusal}
@@ -323,4 +323,42 @@ sorts =
       required-value = refl;
       implied-value = refl;
       created = refl;
+    }
+
+-- ---- paper 02, W1: names that XML 1.0 reserves
+-- a store that holds two, a definition's and an attribute's, and one instance
+abbrev reserving : Store
+reserving =
+    record {
+      version = baseVersion;
+      next = 2;
+      form = record { name = ascii "xmlTime"; content = empty; attributes = record { name = ascii "XmL"; sort = implied; value = [] } ∷ [] } ∷ [];
+      docs = tree (record { serial = 1; sort = element; name = ascii "xmlTime"; value = [] }) bare bare;
+    }
+
+pub record Reserved : Type 0 where
+  -- 'Stores that already hold one still pass the check'
+  pub still-passes : good reserving ≡ true
+  -- 'each in either case'; `xml` itself is reserved, `xm` and `xmk` are not
+  pub either-case : refuses (createDefinition (ascii "XMLtime") 1) reserving ≡ 2
+  pub three-bytes : refuses (createDefinition (ascii "xml") 1) reserving ≡ 2
+  pub two-bytes : refuses (createDefinition (ascii "xm") 1) reserving ≡ 0
+  pub other-third : refuses (createDefinition (ascii "xmk") 1) reserving ≡ 0
+  -- 2 stands before 5
+  pub before-taken : refuses (createDefinition (ascii "xmlTime") 1) reserving ≡ 2
+  pub of-attribute : refuses (addAttribute 0 (ascii "xMl-id") 0 []) reserving ≡ 2
+
+pub reserved : Reserved
+unfolding valueWidth names nothing filling member full distinct facts continues accepts plug kindAt spine beforePlace around afterMembers find _⊕_ edited place
+    placeOf goodDefinition wellFormed strip fitsRow conforming goodSerials good fillAttributes fillEach fillContent fillWithin findRow childrenOf attributeAt
+    formAfter plan prune eachRow plant newRows given number after conditions refusal confirm outcome
+reserved =
+    record {
+      still-passes = refl;
+      either-case = refl;
+      three-bytes = refl;
+      two-bytes = refl;
+      other-third = refl;
+      before-taken = refl;
+      of-attribute = refl;
     }

@@ -19,16 +19,26 @@ startsName x = between 65 90 x || between 97 122 x || eqb x 95
 abbrev pub inName : ℕ → Bool
 inName x = startsName x || between 48 57 x || eqb x 45 || eqb x 46
 
+-- 'Names: 1–16 bytes, first a letter or `_`, then also digits, `-`, `.`'
 abbrev pub isName : Bytes → Bool
 isName [] = false
 isName (x ∷ xs) = startsName x && all inName xs && leb (length (x ∷ xs)) nameWidth
 
--- the name test of the check, and that of changes 1 and 9
+-- paper 02, W1: 'XML 1.0 section 2.3 reserves names whose first three bytes are x, m, l, each in either case':
+-- x 120, X 88; m 109, M 77; l 108, L 76
+abbrev pub reservedName : Bytes → Bool
+reservedName [] = false
+reservedName (a ∷ []) = false
+reservedName (a ∷ b ∷ []) = false
+reservedName (a ∷ b ∷ c ∷ rest) = (eqb a 120 || eqb a 88) && ((eqb b 109 || eqb b 77) && (eqb c 108 || eqb c 76))
+
+-- the name test of the check: 'Stores that already hold one still pass the check'
 abbrev pub storedName : Bytes → Bool
 storedName n = isName n
 
+-- the name test of changes 1 and 9: 'Creating a definition or adding an attribute now treats such a name as bad (2)'
 abbrev pub givenName : Bytes → Bool
-givenName n = isName n
+givenName n = isName n && not (reservedName n)
 
 -- a value of at most w bytes
 abbrev pub isValue : ℕ → Bytes → Bool
@@ -84,6 +94,10 @@ reaches (suc h) form target n = any (λ m. same m target || reaches h form targe
 -- through any number of models: no more than there are definitions are needed
 abbrev pub reachesIn : Form → Bytes → Bytes → Bool
 reachesIn form n target = reaches (length form) form target n
+
+-- no definition and no attribute has a name that is reserved
+unfoldable pub noneReserved : Form → Bool
+noneReserved form = all (λ (d : Definition). not (reservedName (d .name)) && all (λ (a : Attribute). not (reservedName (a .name))) (d .attributes)) form
 
 -- ---- well-formed
 -- a REQUIRED fill is not empty, an IMPLIED value is

@@ -1,7 +1,7 @@
 //! Definitions and attributes: changes 1, 2, 9 and 10.
 
 use super::{coded, for_each_instance, good_value, known, run};
-use crate::check::name_ok;
+use crate::check::{name_ok, reserved};
 use crate::edit;
 use crate::filling::Maker;
 use crate::model::elements_of;
@@ -11,7 +11,7 @@ use crate::store::*;
 /// Change 1. Create definition.
 pub fn create_definition(store: &[u8], name: &[u8], kind: u32, out: &mut [u8]) -> Answer {
     run(store, out, |store| {
-        refuse_if(!name_ok(name), Refusal::BadName)?;
+        refuse_if(!name_ok(name) || reserved(name), Refusal::BadName)?;
         let kind = coded(kind)?;
         let mut definitions = store.form.definitions.iter();
         let exists = definitions.any(|definition| definition.name == name);
@@ -60,7 +60,7 @@ pub fn add_attribute(
     out: &mut [u8],
 ) -> Answer {
     run(store, out, |store| {
-        refuse_if(!name_ok(name), Refusal::BadName)?;
+        refuse_if(!name_ok(name) || reserved(name), Refusal::BadName)?;
         good_value(value)?;
         let sort: AttributeSort = coded(sort)?;
         let same = |other: &Attribute| other.owner as u64 == u64::from(owner) && other.name == name;

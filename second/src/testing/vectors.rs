@@ -319,8 +319,25 @@ pub fn run_files(mut run: impl FnMut(&Line) -> Result<(), String>) -> usize {
     lines
 }
 
+/// How many of paper 02's requests are done: their vectors hold, too.
+const REQUESTS: usize = 1;
+
+/// Whether a file has the vectors of a request that is done: its name begins with the request's number.
+fn is_of_done(path: &Path) -> bool {
+    let name = path.file_name().and_then(|name| name.to_str()).unwrap_or_default();
+    let number = name.split('-').next().and_then(|number| number.parse().ok());
+    number.is_some_and(|number: usize| number <= REQUESTS)
+}
+
+/// The text files of a folder.
+fn texts(folder: &Path) -> std::io::Result<Vec<PathBuf>> {
+    let entries = std::fs::read_dir(folder)?;
+    let paths = entries.map(|entry| entry.expect("the folder can be read").path());
+    Ok(paths.filter(|path| path.extension().is_some_and(|end| end == "txt")).collect())
+}
+
 /// The sample in the repository, and the files of the folder FORM_VECTORS, or of
-/// `shared/vectors` beside the repository if there is one.
+/// `shared/vectors` beside the repository if there is one, with those of its `requests`.
 fn files() -> Vec<PathBuf> {
     let root = Path::new(env!("CARGO_MANIFEST_DIR")).join("..");
     let given = std::env::var_os("FORM_VECTORS");
@@ -329,11 +346,12 @@ fn files() -> Vec<PathBuf> {
         None => root.join("../shared/vectors"),
     };
     let mut files = vec![root.join("second/tests/sample.txt")];
-    match std::fs::read_dir(&folder) {
-        Ok(entries) => {
-            let paths = entries.map(|entry| entry.expect("the folder can be read").path());
-            files.extend(paths.filter(|path| path.extension().is_some_and(|end| end == "txt")));
+    match texts(&folder) {
+        Ok(paths) => {
+            files.extend(paths);
             assert!(files.len() > 1, "no vectors in {}", folder.display());
+            let requests = texts(&folder.join("requests")).unwrap_or_default();
+            files.extend(requests.into_iter().filter(|path| is_of_done(path)));
         }
         Err(_) => {
             assert!(given.is_none(), "FORM_VECTORS names no folder");

@@ -9,14 +9,14 @@ use Rattle.rules.proofs.Words.{test-is, not-is}
 use Rattle.attribute_refusals.proofs.add_attribute_refusal.Statement.{statement}
 use Rattle.attribute_refusals.proofs.add_attribute_refusal.Tie as tie
 
-stored-name-requires : tie.Need-stored-name-requires
-stored-name-requires c κs = search needs
+given-name-requires : tie.Need-given-name-requires
+given-name-requires c κs = search needs
 
 returns : tie.Need-returns
 returns c =
-    let at-stored-name = c .before in
-    let start = at-stored-name .before .before .before .before in
-    add-2 _ (whole _ (start .pre)) _ _ _ _ (not-is (at-stored-name .stored-name .ensures) (c .if1 .taken)) .is
+    let at-given-name = c .before in
+    let start = at-given-name .before .before .before .before in
+    add-2 _ (whole _ (start .pre)) _ _ _ _ (not-is (at-given-name .given-name .ensures) (c .if1 .taken)) .is
 
 width-in-requires : tie.Need-width-in-requires
 width-in-requires c κs = search needs
@@ -29,9 +29,9 @@ returns-2 c =
     let at-is-value = c .before in
     let at-width-in = at-is-value .before in
     let at-if1 = at-width-in .before in
-    let at-stored-name = at-if1 .before in
-    let start = at-stored-name .before .before .before .before in
-    add-3 _ (whole _ (start .pre)) _ _ _ _ (not-is (at-stored-name .stored-name .ensures) (at-if1 .if1 .left))
+    let at-given-name = at-if1 .before in
+    let start = at-given-name .before .before .before .before in
+    add-3 _ (whole _ (start .pre)) _ _ _ _ (not-is (at-given-name .given-name .ensures) (at-if1 .if1 .left))
     (bad-text _ (start .args .value .now) (at-width-in .width-in .ensures) (at-is-value .is-value .ensures) (c .if2 .taken)) .is
 
 returns-3 : tie.Need-returns-3
@@ -40,10 +40,10 @@ returns-3 c =
     let at-is-value = at-if2 .before in
     let at-width-in = at-is-value .before in
     let at-if1 = at-width-in .before in
-    let at-stored-name = at-if1 .before in
-    let start = at-stored-name .before .before .before .before in
+    let at-given-name = at-if1 .before in
+    let start = at-given-name .before .before .before .before in
     let a = start .args in
-    add-4 _ (whole _ (start .pre)) (a .owner) (a .name .now) (a .sort) (a .value .now) (not-is (at-stored-name .stored-name .ensures) (at-if1 .if1 .left))
+    add-4 _ (whole _ (start .pre)) (a .owner) (a .name .now) (a .sort) (a .value .now) (not-is (at-given-name .given-name .ensures) (at-if1 .if1 .left))
     (fine-text _ (a .value .now) (at-width-in .width-in .ensures) (at-is-value .is-value .ensures) (at-if2 .if2 .left)) (omega arith) .is
 
 has-attribute-requires : tie.Need-has-attribute-requires
@@ -56,10 +56,10 @@ returns-4 c =
     let at-is-value = at-if2 .before in
     let at-width-in = at-is-value .before in
     let at-if1 = at-width-in .before in
-    let at-stored-name = at-if1 .before in
-    let start = at-stored-name .before .before .before .before in
+    let at-given-name = at-if1 .before in
+    let start = at-given-name .before .before .before .before in
     let a = start .args in
-    add-5 _ (whole _ (start .pre)) (a .owner) (a .name .now) (a .sort) (a .value .now) (not-is (at-stored-name .stored-name .ensures) (at-if1 .if1 .left))
+    add-5 _ (whole _ (start .pre)) (a .owner) (a .name .now) (a .sort) (a .value .now) (not-is (at-given-name .given-name .ensures) (at-if1 .if1 .left))
     (fine-text _ (a .value .now) (at-width-in .width-in .ensures) (at-is-value .is-value .ensures) (at-if2 .if2 .left)) (omega arith)
     (test-is (at-has-attribute .has-attribute .ensures) (c .if4 .taken)) .is
 
@@ -75,10 +75,10 @@ returns-5 c =
     let at-is-value = at-if2 .before in
     let at-width-in = at-is-value .before in
     let at-if1 = at-width-in .before in
-    let at-stored-name = at-if1 .before in
-    let start = at-stored-name .before .before .before .before in
+    let at-given-name = at-if1 .before in
+    let start = at-given-name .before .before .before .before in
     let a = start .args in
-    add-6 _ (whole _ (start .pre)) (a .owner) (a .name .now) (a .sort) (a .value .now) (not-is (at-stored-name .stored-name .ensures) (at-if1 .if1 .left))
+    add-6 _ (whole _ (start .pre)) (a .owner) (a .name .now) (a .sort) (a .value .now) (not-is (at-given-name .given-name .ensures) (at-if1 .if1 .left))
     (fine-text _ (a .value .now) (at-width-in .width-in .ensures) (at-is-value .is-value .ensures) (at-if2 .if2 .left)) (omega arith)
     (test-is (at-has-attribute .has-attribute .ensures) (at-if4 .if4 .left))
     (past-definitions _ (whole _ (start .pre)) (at-definition-count .definition-count .ensures) _ (omega arith)) .is
@@ -96,10 +96,10 @@ returns-6 c =
     let at-is-value = at-if2 .before in
     let at-width-in = at-is-value .before in
     let at-if1 = at-width-in .before in
-    let at-stored-name = at-if1 .before in
-    let start = at-stored-name .before .before .before .before in
+    let at-given-name = at-if1 .before in
+    let start = at-given-name .before .before .before .before in
     let a = start .args in
-    add-12 _ (whole _ (start .pre)) (a .owner) (a .name .now) (a .sort) (a .value .now) (not-is (at-stored-name .stored-name .ensures) (at-if1 .if1 .left))
+    add-12 _ (whole _ (start .pre)) (a .owner) (a .name .now) (a .sort) (a .value .now) (not-is (at-given-name .given-name .ensures) (at-if1 .if1 .left))
     (fine-text _ (a .value .now) (at-width-in .width-in .ensures) (at-is-value .is-value .ensures) (at-if2 .if2 .left)) (omega arith)
     (test-is (at-has-attribute .has-attribute .ensures) (at-if4 .if4 .left))
     (within-definitions _ (whole _ (start .pre)) (at-definition-count .definition-count .ensures) _ (omega arith))
@@ -115,10 +115,10 @@ returns-7 c =
     let at-is-value = at-if2 .before in
     let at-width-in = at-is-value .before in
     let at-if1 = at-width-in .before in
-    let at-stored-name = at-if1 .before in
-    let start = at-stored-name .before .before .before .before in
+    let at-given-name = at-if1 .before in
+    let start = at-given-name .before .before .before .before in
     let a = start .args in
-    add-0 _ (whole _ (start .pre)) (a .owner) (a .name .now) (a .sort) (a .value .now) (not-is (at-stored-name .stored-name .ensures) (at-if1 .if1 .left))
+    add-0 _ (whole _ (start .pre)) (a .owner) (a .name .now) (a .sort) (a .value .now) (not-is (at-given-name .given-name .ensures) (at-if1 .if1 .left))
     (fine-text _ (a .value .now) (at-width-in .width-in .ensures) (at-is-value .is-value .ensures) (at-if2 .if2 .left)) (omega arith)
     (test-is (at-has-attribute .has-attribute .ensures) (at-if4 .if4 .left))
     (within-definitions _ (whole _ (start .pre)) (at-definition-count .definition-count .ensures) _ (omega arith))
@@ -128,7 +128,7 @@ pub add-attribute-refusal-spec : {M : Type 1} → statement M
 add-attribute-refusal-spec =
     tie.close
     (tie.spec
-    stored-name-requires
+    given-name-requires
     returns
     width-in-requires
     is-value-requires

@@ -134,7 +134,7 @@ impl Drawer<'_> {
 
     fn name(&mut self) -> Vec<u8> {
         if self.is_hostile() {
-            let names: [&[u8]; 9] = [
+            let names: [&[u8]; 13] = [
                 b"",
                 b"9a",
                 b"-a",
@@ -144,6 +144,10 @@ impl Drawer<'_> {
                 b"a\x80",
                 b"\0",
                 b"seventeen-letters",
+                b"xml",
+                b"XmL-a",
+                b"xMLTime",
+                b"xmk",
             ];
             return self.rng.pick(&names).unwrap_or(&names[0]).to_vec();
         }

@@ -73,6 +73,10 @@ fn names(rng: &mut Rng, count: usize) -> Vec<Vec<u8>> {
     for number in names.len()..count {
         names.push(format!("n{number}").into_bytes());
     }
+    // One that the check takes, and changes 1 and 9 do not.
+    if rng.chance(10) {
+        names.push(b"xMlTime".to_vec());
+    }
     rng.shuffle(&mut names);
     names.truncate(count);
     names

@@ -67,7 +67,7 @@ fn words<C: Code>() -> Vec<&'static str> {
 pub const NAME: Argument = needed(
     "name",
     "NAME",
-    "the name: 1 to 16 letters, digits, _, - and ., first a letter or _",
+    "the name: 1 to 16 letters, digits, _, - and ., first a letter or _; it may not begin with xml, XML or the like",
 );
 pub const KIND: Argument = code::<Kind>(
     "kind",

@@ -1,6 +1,5 @@
 //! Change 6: members converted into a group. The call is the check, the first refusal that applies or the place, and an
 //! edit of the owner's model there; all rows stay.
-use model_writer::Edit;
 use store_writer::Answer;
 ghost use lib.ListN.{length};
 ghost use Rattle.rules.specs.Change.{convertToGroup};
@@ -27,7 +26,7 @@ pub fn convert_to_group(
         return store_writer::refused(number);
     }
     let o = owner as usize;
-    let edit = Edit::Convert(group_refusals::group_kind(sort), count as usize);
+    let edit = conversion::convert_edit(count, sort);
     let plan = plans::setting_plan(0);
     let h = members.holder;
     let p = members.particle;

@@ -9,7 +9,7 @@ use mathlib.Core.List.{List, [], _∷_}
 use lib.Dec.{eqb, ltb}
 use lib.ListN.{length, drop}
 use Rattle.rules.specs.declared.GroupKind.{GroupKind}
-use Rattle.rules.specs.declared.GroupKind.the-variants.{Sequence, Choice}
+use Rattle.rules.specs.declared.GroupKind.the-variants.{Sequence}
 use Rattle.rules.specs.Bytes.{Bytes}
 use Rattle.rules.specs.Model.{Members, done, el, group, rename, isDone}
 use Rattle.rules.specs.Layout.{particleSize, howMany}
@@ -166,9 +166,3 @@ module _ (bs : Bytes) (pass : passes bs ≡ true) (o : ℕ) (p : List ℕ) (n k 
                   ∙ sym (ap (λ (y : Option (Spot Bytes)). first (8 if (noPlace y || atPlace (λ c x. not (hasMembers n x)) y) ∷ 14 if atPlace
                   (λ c x. groupUnlike c (groupOf k) (firstMembers n x)) y ∷ [])) z);
             }))
-
--- ---- a code
-pub kind-2 : (k : ℕ) → (k ≡ 0 → ⊥) → (k ≡ 1 → ⊥) → Choice ≡ groupOf k
-kind-2 zero e f = absurd (e refl)
-kind-2 (suc zero) e f = absurd (f refl)
-kind-2 (suc (suc k)) e f = refl

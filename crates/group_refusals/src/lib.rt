@@ -12,7 +12,6 @@ ghost use Prim.Native.Nat.{_*_, _≤_};
 ghost use lib.ListN.{drop};
 ghost use Rattle.rules.specs.Layout.{particleSize};
 ghost use Rattle.rules.specs.Edit.{isOne};
-ghost use Rattle.rules.specs.Decode.{groupOf};
 ghost use Rattle.rules.specs.Passing.{passes};
 ghost use Rattle.rules.specs.Change.{convertToGroup, flattenGroup};
 ghost use Rattle.rules.specs.Refusal.{_if_, first, conditions};
@@ -50,17 +49,6 @@ fn flatten_at(list: GroupKind, q: Quantifier, kind: GroupKind, n: usize) -> u32
     0
 }
 
-/// The kind of the group that a change asks for.
-pub fn group_kind(sort: u32) -> GroupKind
-    ensures { λ r. ⌜ r ≡ groupOf sort ⌝ }
-{
-    match sort {
-        0 => GroupKind::Sequence,
-        1 => GroupKind::Sequence,
-        _ => GroupKind::Choice,
-    }
-}
-
 // Refusals 8 and 14 of members from particle p of the list h on that become a group.
 fn convert_at(part: &[u8], h: Holder, p: usize, count: u32, kind: GroupKind) -> u32
     requires { ⌜ p ≤ 256 ⌝ }
@@ -96,7 +84,7 @@ pub fn convert_to_group_refusal(
         return model_places::refused(6);
     }
     let part = model_places::own_part(store, owner as usize);
-    let kind = group_kind(sort);
+    let kind = conversion::group_kind(sort);
     let found = place_lookup::find(part, place, false);
     match found {
         Found::Absent => model_places::refused(8),

@@ -1,14 +1,11 @@
 -- `convert_call::convert_to_group` meets its contract: the call is refused on a bad store and by a condition
 -- (`bad`, `turned-away` of CallLaws). Else the edit fits at the place (`convert-fits` of Laws), and
 -- `edit_model` writes what the change leaves (`kept-answers` of Keeping).
-use mathlib.Core.Path.{sym, ap, _∙_}
+use mathlib.Core.Path.{sym, _∙_}
 use lib.ListN.{length}
-use Rattle.rules.specs.declared.GroupKind.{GroupKind}
-use Rattle.rules.specs.Edit.{convert}
 use Rattle.rules.specs.Lines.{lines}
 use Rattle.rules.specs.Change.{convertToGroup}
 use Rattle.store_laws.specs.Stores.{storeIn}
-use Rattle.model_writer.specs.declared.Edit.the-variants.{Convert}
 use Rattle.store_writer.proofs.CallLaws.{passed, bad, turned-away}
 use Rattle.model_edit.proofs.Fits.{asks}
 use Rattle.model_edit.proofs.Keeping.{kept-answers, keeping-sized}
@@ -54,8 +51,8 @@ returns-2 c =
     turned-away (convertToGroup (a .owner) (a .place .now) (a .count) (a .sort)) (a .store .now) (length (a .out .now)) (a .out .now)
     (at-if1 .if1 .left) (at-passes .passes .ensures) (at-convert-to-group-refusal .convert-to-group-refusal .ensures .0) (at-if2 .if2 .taken) (c .refused2 .ensures)
 
-group-kind-requires : tie.Need-group-kind-requires
-group-kind-requires c κs = search needs
+convert-edit-requires : tie.Need-convert-edit-requires
+convert-edit-requires c κs = search needs
 
 setting-plan-requires : tie.Need-setting-plan-requires
 setting-plan-requires c κs = search needs
@@ -66,8 +63,8 @@ slice-aggregate-edit-model c = search needs
 edit-model-requires : tie.Need-edit-model-requires
 edit-model-requires c κs =
     let at-setting-plan = c .before .before .before in
-    let at-group-kind = at-setting-plan .before in
-    let at-if2 = at-group-kind .before in
+    let at-convert-edit = at-setting-plan .before in
+    let at-if2 = at-convert-edit .before in
     let at-convert-to-group-refusal = at-if2 .before in
     let at-if1 = at-convert-to-group-refusal .before in
     let at-passes = at-if1 .before in
@@ -76,8 +73,8 @@ edit-model-requires c κs =
     let none = sym (at-convert-to-group-refusal .convert-to-group-refusal .ensures .0) ∙ at-if2 .if2 .left in
     let fits = convert-fits (a .store .now) (passed (a .store .now) (at-if1 .if1 .left) (at-passes .passes .ensures)) (a .owner) (a .place .now) (a .count) (a .sort) none in
     let place = at-convert-to-group-refusal .convert-to-group-refusal .ensures .1 .found (at-if2 .if2 .left) in
-    let edit = Convert (at-group-kind .group-kind .result) (a .count) in
-    let same = ap (λ (k : GroupKind). convert k (a .count)) (at-group-kind .group-kind .ensures) in
+    let edit = at-convert-edit .convert-edit .result in
+    let same = at-convert-edit .convert-edit .ensures in
     (asks fits edit same place, none-value (widthOf (a .store .now)), keeping-sized (at-setting-plan .setting-plan .ensures))
 
 same-length : tie.Need-same-length
@@ -87,8 +84,8 @@ returns-3 : tie.Need-returns-3
 returns-3 c =
     let at-edit-model = c .before .before in
     let at-setting-plan = at-edit-model .before .before .before .before in
-    let at-group-kind = at-setting-plan .before in
-    let at-if2 = at-group-kind .before in
+    let at-convert-edit = at-setting-plan .before in
+    let at-if2 = at-convert-edit .before in
     let at-convert-to-group-refusal = at-if2 .before in
     let at-if1 = at-convert-to-group-refusal .before in
     let at-passes = at-if1 .before in
@@ -97,8 +94,8 @@ returns-3 c =
     let none = sym (at-convert-to-group-refusal .convert-to-group-refusal .ensures .0) ∙ at-if2 .if2 .left in
     let fits = convert-fits (a .store .now) (passed (a .store .now) (at-if1 .if1 .left) (at-passes .passes .ensures)) (a .owner) (a .place .now) (a .count) (a .sort) none in
     let place = at-convert-to-group-refusal .convert-to-group-refusal .ensures .1 .found (at-if2 .if2 .left) in
-    let edit = Convert (at-group-kind .group-kind .result) (a .count) in
-    let same = ap (λ (k : GroupKind). convert k (a .count)) (at-group-kind .group-kind .ensures) in
+    let edit = at-convert-edit .convert-edit .result in
+    let same = at-convert-edit .convert-edit .ensures in
     kept-answers fits edit same place (convertToGroup (a .owner) (a .place .now) (a .count) (a .sort)) (length (a .out .now)) _ (at-setting-plan .setting-plan .ensures)
     (at-convert-to-group-refusal .convert-to-group-refusal .ensures .0) (at-if2 .if2 .left) (convert-form (a .owner) (a .place .now) (a .count) (a .sort) (storeIn (a .store .now) .form))
     (convert-plan (a .owner) (a .place .now) (a .count) (a .sort) (storeIn (a .store .now) .version) (storeIn (a .store .now) .form) (lines 0 (storeIn (a .store .now) .docs)))
@@ -114,7 +111,7 @@ convert-to-group-spec =
     convert-to-group-refusal-requires
     refused-requires-2
     returns-2
-    group-kind-requires
+    convert-edit-requires
     setting-plan-requires
     slice-aggregate-edit-model
     edit-model-requires

@@ -25,7 +25,7 @@ module _ {A : Type 0} where
     distinct-last xs x d (λ m. f (List·Memᴰ·tail m)),
   )
 
-  without-in : (i : ℕ) (xs : List A) {x : A} → List·Memᴰ x (without i xs) → List·Memᴰ x xs
+  pub without-in : (i : ℕ) (xs : List A) {x : A} → List·Memᴰ x (without i xs) → List·Memᴰ x xs
   without-in i [] m = m
   without-in zero (y ∷ xs) m = List·Memᴰ·tail m
   without-in (suc i) (y ∷ xs) m = ⊎-elim (λ e. List·Memᴰ·head e) (λ k. List·Memᴰ·tail (without-in i xs k)) (List·Memᴰ·cases-cons m)

@@ -1,61 +1,51 @@
 -- AN ACCEPTED CALL MAKES NO RESERVED NAME (paper 02, W1).
 use Prim.Native.Nat.{ℕ, zero, suc}
-use mathlib.Core.Path.{_≡_, refl, ap, _∙_}
-use mathlib.Core.Bool.{Bool, true, false, _&&_, not}
+use mathlib.Core.Path.{_≡_, refl, _∙_}
+use mathlib.Core.Bool.{Bool, true, false, not}
 use mathlib.Core.Option.{Option, none, some}
 use mathlib.Core.List.{List, [], _∷_, _++_}
-use Rattle.rules.specs.Bytes.{Bytes, same, all}
+use Rattle.rules.specs.Bytes.{Bytes, all}
 use Rattle.rules.specs.Store.{Attribute, Definition, Form, Store}
 use Rattle.rules.specs.Layout.{indexOf}
-use Rattle.rules.specs.WellFormed.{isName, reservedName, givenName, noneReserved}
+use Rattle.rules.specs.WellFormed.{isName, reservedName, givenName, unreserved, noneReserved}
 use Rattle.rules.specs.Change.{Call, createDefinition, destroyDefinition, insertElement, removeElement, changeQuantifier, convertToGroup, flattenGroup}
 use Rattle.rules.specs.Change.{changeGroupQuantifier, addAttribute, destroyAttribute, addDocument, addElement, destroyElement, setAttribute}
 use Rattle.rules.specs.Change.{destroyAttributeRow, setText, Owned, attributeAt, update, without, withAttributes, lacking, dropOwned, newAttribute, formAfter}
 use Rattle.rules.specs.Refusal.{conditions, refusal}
 use Rattle.rules.proofs.Words.{and-both, and-split}
-use Rattle.rules.proofs.BooleanLaws.{all-append}
+use Rattle.rules.proofs.BooleanLaws.{all-append, all-of, all-in}
 use Rattle.change_laws.proofs.Conditions.{unmet}
+use Rattle.change_laws.proofs.Replacing.{without-in}
+use Rattle.change_laws.proofs.WellFormedAfter.{lacking-in}
 use borrow.Author.Tests.{not-false}
 
--- an attribute, and a definition with its attributes
 abbrev freeAttribute : Attribute → Bool
 freeAttribute a = not (reservedName (a .name))
-
-abbrev freeDefinition : Definition → Bool
-freeDefinition d = not (reservedName (d .name)) && all freeAttribute (d .attributes)
 
 -- ---- lists of which each entry passes
 all-last : {A : Type 0} (p : A → Bool) (xs : List A) (y : A) → all p xs ≡ true → p y ≡ true → all p (xs ++ y ∷ []) ≡ true
 all-last p xs y h e = all-append p xs (y ∷ []) ∙ and-both h (and-both e refl)
 
 all-without : {A : Type 0} (p : A → Bool) (i : ℕ) (xs : List A) → all p xs ≡ true → all p (without i xs) ≡ true
-all-without p i [] h = h
-all-without p zero (x ∷ xs) h = and-split (p x) (all p xs) h .1
-all-without p (suc i) (x ∷ xs) h = let (a, b) = and-split (p x) (all p xs) h in and-both a (all-without p i xs b)
+all-without p i xs h = all-of p (without i xs) (λ x m. all-in p x xs h (without-in i xs m))
 
 all-lacking : (n : Bytes) (table : List Attribute) → all freeAttribute table ≡ true → all freeAttribute (lacking n table) ≡ true
-all-lacking n [] h = h
-all-lacking n (a ∷ table) h = by (same n (a .name)) refl (and-split (freeAttribute a) (all freeAttribute table) h) (all-lacking n table)
-  where
-    by : (b : Bool) → same n (a .name) ≡ b → (freeAttribute a ≡ true) × (all freeAttribute table ≡ true)
-        → (all freeAttribute table ≡ true → all freeAttribute (lacking n table) ≡ true) → all freeAttribute (lacking n (a ∷ table)) ≡ true
-    by true e (x, y) f = rw (e, lacking) y
-    by false e (x, y) f = rw (e, lacking) (and-both x (f y))
+all-lacking n table h = all-of freeAttribute (lacking n table) (λ a m. all-in freeAttribute a table h (lacking-in n table m))
 
 -- ---- one definition changed
-all-update : (i : ℕ) (u : Definition → Definition) (form : Form) → ((d : Definition) → freeDefinition d ≡ true → freeDefinition (u d) ≡ true)
-    → all freeDefinition form ≡ true → all freeDefinition (update i u form) ≡ true
+all-update : (i : ℕ) (u : Definition → Definition) (form : Form) → ((d : Definition) → unreserved d ≡ true → unreserved (u d) ≡ true)
+    → all unreserved form ≡ true → all unreserved (update i u form) ≡ true
 all-update i u [] f h = h
-all-update zero u (d ∷ form) f h = let (a, b) = and-split (freeDefinition d) (all freeDefinition form) h in and-both (f d a) b
+all-update zero u (d ∷ form) f h = let (a, b) = and-split (unreserved d) (all unreserved form) h in and-both (f d a) b
 all-update (suc i) u (d ∷ form) f h =
-    let (a, b) = and-split (freeDefinition d) (all freeDefinition form) h in
+    let (a, b) = and-split (unreserved d) (all unreserved form) h in
     and-both a (all-update i u form f b)
 
 table-free : (t : List Attribute → List Attribute) → ((table : List Attribute) → all freeAttribute table ≡ true → all freeAttribute (t table) ≡ true)
-    → (d : Definition) → freeDefinition d ≡ true → freeDefinition (withAttributes t d) ≡ true
+    → (d : Definition) → unreserved d ≡ true → unreserved (withAttributes t d) ≡ true
 table-free t f d h = let (a, b) = and-split (not (reservedName (d .name))) (all freeAttribute (d .attributes)) h in and-both a (f (d .attributes) b)
 
-owned-free : (o : Option Owned) (form : Form) → all freeDefinition form ≡ true → all freeDefinition (dropOwned o form) ≡ true
+owned-free : (o : Option Owned) (form : Form) → all unreserved form ≡ true → all unreserved (dropOwned o form) ≡ true
 owned-free none form h = h
 owned-free (some o) form h = all-update (indexOf (o .owner .name) form) _ form (table-free (lacking (o .attribute .name)) (all-lacking (o .attribute .name))) h
 
@@ -66,8 +56,8 @@ given-free n e = and-split (isName n) (not (reservedName n)) (not-false (givenNa
 pub none-reserved-after : (room : ℕ) (c : Call) (s : Store) → refusal room c s ≡ 0 → noneReserved (s .form) ≡ true → noneReserved (formAfter c (s .form)) ≡ true
 unfolding formAfter conditions noneReserved
 none-reserved-after room (createDefinition n k) s a h =
-    all-last freeDefinition (s .form) _ h (and-both (given-free n (unmet room (createDefinition n k) s a .0)) refl)
-none-reserved-after room (destroyDefinition i) s a h = all-without freeDefinition i (s .form) h
+    all-last unreserved (s .form) _ h (and-both (given-free n (unmet room (createDefinition n k) s a .0)) refl)
+none-reserved-after room (destroyDefinition i) s a h = all-without unreserved i (s .form) h
 none-reserved-after room (insertElement o p i q t) s a h = all-update o _ (s .form) (λ d e. e) h
 none-reserved-after room (removeElement o p) s a h = all-update o _ (s .form) (λ d e. e) h
 none-reserved-after room (changeQuantifier o p q t) s a h = all-update o _ (s .form) (λ d e. e) h

@@ -109,7 +109,7 @@ fill-right zero v e = not-false (isNone v) e
 fill-right (suc zero) v e = rw e
 fill-right (suc (suc k)) v e = refl
 
-lacking-in : (n : Bytes) (table : List Attribute) {a : Attribute} → List·Memᴰ a (lacking n table) → List·Memᴰ a table
+pub lacking-in : (n : Bytes) (table : List Attribute) {a : Attribute} → List·Memᴰ a (lacking n table) → List·Memᴰ a table
 lacking-in n [] m = m
 lacking-in n (b ∷ table) {a} m = by (same n (b .name)) refl (lacking-in n table)
   where

@@ -1,5 +1,5 @@
 -- The bodies of a store after change 2.
-use Prim.Native.Nat.{ℕ, zero, suc, _-_, _<_}
+use Prim.Native.Nat.{ℕ, suc, _-_, _<_}
 use mathlib.Core.Path.{_≡_, refl, sym, ap, _∙_}
 use mathlib.Core.Logic.{inl, inr}
 use mathlib.Core.Bool.{true, false, false≢true}
@@ -16,6 +16,7 @@ use Rattle.rules.specs.Change.{destroyDefinition, nameAtIndex, without, formAft
 use Rattle.rules.proofs.BooleanLaws.{Every, every-in}
 use Rattle.rules.proofs.TestLaws.{any-test, member-test}
 use Rattle.rules.proofs.DecodeLaws.{good-parts}
+use Rattle.change_laws.proofs.Replacing.{without-in}
 use Rattle.change_laws.proofs.Rowwise.{Standing}
 use Rattle.change_laws.proofs.StandingLaws.{standing-every}
 use Rattle.change_laws.proofs.ConformingForms.{nowhere}
@@ -30,11 +31,6 @@ use Rattle.definition_removal.proofs.Lowered.{without-cut, map-without,
 every-standing : (P : Row → List Row → Type 0) (f : Forest Row) → ((r : Row) (b : Forest Row) → Standing f r b → P r (heads b)) → EveryRow P f
 every-standing P bare h = tt
 every-standing P (tree r b t) h = (h r b (inl (refl, refl)), every-standing P b (λ s c i. h s c (inr (inl i))), every-standing P t (λ s c i. h s c (inr (inr i))))
-
-every-without : {A : Type 0} (P : A → Type 0) (i : ℕ) (xs : List A) → Every P xs → Every P (without i xs)
-every-without P i [] e = tt
-every-without P zero (x ∷ xs) (a, e) = e
-every-without P (suc i) (x ∷ xs) (a, e) = (a, every-without P i xs e)
 
 module _ (i : ℕ) (s : Store) (g : good s ≡ true) (h : i < length (s .form)) where
   abbrev form : Form
@@ -61,9 +57,10 @@ module _ (i : ℕ) (s : Store) (g : good s ≡ true) (h : i < length (s .form)) 
 
     names-ok : Every (λ d. (m : Bytes) → List·Memᴰ m (names (members d)) → Ok m) left
     names-ok =
-        every-without (λ d. (m : Bytes) → List·Memᴰ m (names (members d)) → Ok m) i form
-        (every-in (λ d. (m : Bytes) → List·Memᴰ m (names (members d)) → Ok m) form
-        (λ d k m j e. false≢true (sym models ∙ any-test (λ (d : Definition). member bytes n (names (members d))) form .1 (d, k, member-test bytes n (names (members d)) .1 (Memᴰ·cast (sym e) j)))))
+        every-in (λ d. (m : Bytes) → List·Memᴰ m (names (members d)) → Ok m) left
+        (λ d k m j e. false≢true
+        (sym models ∙ any-test (λ (d : Definition). member bytes n (names (members d))) form .1
+        (d, without-in i form k, member-test bytes n (names (members d)) .1 (Memᴰ·cast (sym e) j))))
 
     elements : (m : Bytes) → Ok m → indexOf m left ≡ down (indexOf m form)
     elements m o = index-lowered m i form h o

@@ -218,8 +218,11 @@ accepted-unmet m h a e =
     unrefused (refusal (a .room) (a .call) (h .store)) (encode (after (a .call) (h .store))) (ap isAccepted (sym (outcome-read (a .call) (m .store) (a .room) (h .store) (h .read))) ∙ e)
 
 pub accepted-by-rules : (m : Moment) → Holds m → (a : Asked) → isAccepted (outcome (a .call) (m .store) (a .room)) ≡ true → ByTheRules (a .call) (m .book) (step a m .book)
-accepted-by-rules m h a e = subst (λ (z : Book). ByTheRules (a .call) (m .book) z) (sym noted) (by-the-rules (a .room) (a .call) (h .store) (h .passing) (accepted-unmet m h a e) (m .book) (h .agree) (h .once))
+accepted-by-rules m h a e = subst (λ (z : Book). ByTheRules (a .call) (m .book) z) (sym noted) by-note
   where
+    by-note : ByTheRules (a .call) (m .book) (note (a .call) (m .book))
+    by-note = by-the-rules (a .room) (a .call) (h .store) (h .passing) (accepted-unmet m h a e) (m .book) (h .agree) (h .once)
+
     noted : step a m .book ≡ note (a .call) (m .book)
     noted = ap (λ (z : Moment). z .book) (step-moved a m) ∙ ap (λ (x : Bool). follow x (a .call) (m .book)) e
 

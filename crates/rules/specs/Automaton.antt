@@ -33,6 +33,7 @@ join Choice f g =
       follow = f .follow || g .follow;
     }
 
+-- of a part with a quantifier
 abbrev pub quantifyFacts : Quantifier → Facts → Facts
 quantifyFacts None f = f
 quantifyFacts Qmark f = record { nothing = true; first = f .first; last = f .last; follow = f .follow }

@@ -9,6 +9,7 @@ pub record Deep (A : Type 0) : Type 0 where
   pub depth : ℕ
   pub row : A
 
+-- the rows from depth d on, each before what stands below it
 abbrev pub preorder : {A : Type 0} → ℕ → Forest A → List (Deep A)
 preorder d bare = []
 preorder d (tree r b t) = record { depth = d; row = r } ∷ (preorder (suc d) b ++ preorder d t)

@@ -40,6 +40,7 @@ first [] = 0
 first (c ∷ cs) = elim (c .holds) [ true ↦ c .number | false ↦ first cs ]
 
 -- ---- words of the table
+-- no entry of a table has the index
 abbrev pub pastEnd : {A : Type 0} → ℕ → List A → Bool
 pastEnd i xs = not (ltb i (length xs))
 

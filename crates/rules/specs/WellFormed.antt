@@ -96,8 +96,11 @@ abbrev pub reachesIn : Form → Bytes → Bytes → Bool
 reachesIn form n target = reaches (length form) form target n
 
 -- no definition and no attribute has a name that is reserved
+abbrev pub unreserved : Definition → Bool
+unreserved d = not (reservedName (d .name)) && all (λ (a : Attribute). not (reservedName (a .name))) (d .attributes)
+
 unfoldable pub noneReserved : Form → Bool
-noneReserved form = all (λ (d : Definition). not (reservedName (d .name)) && all (λ (a : Attribute). not (reservedName (a .name))) (d .attributes)) form
+noneReserved form = all unreserved form
 
 -- ---- well-formed
 -- a REQUIRED fill is not empty, an IMPLIED value is

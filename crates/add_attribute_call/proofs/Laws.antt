@@ -7,7 +7,7 @@ use mathlib.Core.Bool.{Bool, true, false, not}
 use lib.ListN.{length, take}
 use Rattle.rules.specs.Bytes.{Bytes}
 use Rattle.rules.specs.Layout.{FlatAttribute, FlatStore, flat}
-use Rattle.rules.specs.Decode.{numberAt, definitionCount, particleCount, attributeCount}
+use Rattle.rules.specs.Decode.{definitionCount, particleCount, attributeCount}
 use Rattle.rules.specs.WellFormed.{givenName, isValue, withinCeilings}
 use Rattle.rules.specs.Passing.{passes}
 use Rattle.rules.specs.Change.{addAttribute, after}
@@ -39,7 +39,6 @@ use Rattle.attribute_form.proofs.FormParts.{fits, front-laid}
 use Rattle.attribute_form.proofs.CountLaws.{number-of-definitions, number-of-particles, number-of-attributes}
 use Rattle.attribute_writer.specs.Attributes.{newEntry, Addable}
 use Rattle.add_attribute_call.specs.Added.{added}
-use Rattle.layout.specs.Fields.{versionAt}
 
 -- ---- no condition holds
 module _ (bs : Bytes) {b : Bool} {m : ℕ} (h : not b ≡ false) (e : b ≡ passes bs) where
@@ -65,10 +64,6 @@ module _ (bs : Bytes) (q : passes bs ≡ true) where
   add-leaves o n k v e = let kept : Holds bs = holds bs q in add-attribute-planned (storeIn bs) (kept .good) o n k v e ∙ sym (ap (added o n k v) (kept .bodies))
 
 -- ---- the store that is left
-version-of : (bs : Bytes) → numberAt versionAt 4 bs ≡ bodiesOf bs .version
-unfolding bodiesOf
-version-of bs = refl
-
 module _ (bs : Bytes) (o : ℕ) (n : Bytes) (k : ℕ) (v : Bytes) (x : Addable bs o n k v) where
   kept : Holds bs
   kept = holds bs (x .passes)
@@ -85,9 +80,9 @@ module _ (bs : Bytes) (o : ℕ) (n : Bytes) (k : ℕ) (v : Bytes) (x : Addable b
       let a : Answers (limited room (added o n k v f)) out 16 0 out = form-ceiling (attributeAdded i c f) over (addAttributePlan (f .version) o i k) v f room in
       record { number-is = n-is ∙ a .number-is; length-is = l-is ∙ a .length-is; buffer-is = a .buffer-is }
 
-  module _ {d p a i version r : ℕ} {q : Plan} {buffer left : Bytes} (cd : Number (definitionCount bs) d) (cp : Number (particleCount bs) p)
+  module _ {d p a i r : ℕ} {q : Plan} {buffer left : Bytes} (cd : Number (definitionCount bs) d) (cp : Number (particleCount bs) p)
       (ca : Number (attributeCount bs) a) (few : a < 64) (to : To o (bodiesOf bs .attributes) i)
-      (at : Number (numberAt versionAt 4 bs) version) (same : q ≡ addAttributePlan version o i k)
+      (same : q ≡ addAttributePlan (bodiesOf bs .version) o i k)
       (long : length buffer ≡ mostForm) (y : Laid (formBytes (widthOf bs) (attributeAdded i (newEntry o n k v) (bodiesOf bs))) buffer 0 r left) where
     of-bytes : {form : Bytes} → form ≡ formBytes (widthOf bs) (attributeAdded i (newEntry o n k v) (bodiesOf bs))
         → FormOf (widthOf bs) (attributeAdded i (newEntry o n k v) (bodiesOf bs)) form d p (a + 1)
@@ -126,9 +121,8 @@ module _ (bs : Bytes) (o : ℕ) (n : Bytes) (k : ℕ) (v : Bytes) (x : Addable b
     unfolding added
     added-answers room z =
         let f : FlatStore = bodiesOf bs in
-        let e : version ≡ f .version = at .value ∙ version-of bs in
         answers-equal
         (ap (limited room)
-        ((λ j. plannedIn (attributeAdded (sym (to .is) j) (newEntry o n k v) f) (addAttributePlan (sym e j) o (sym (to .is) j) k) v f)
+        ((λ j. plannedIn (attributeAdded (sym (to .is) j) (newEntry o n k v) f) (addAttributePlan (f .version) o (sym (to .is) j) k) v f)
         ∙ ap (λ (s : Plan). plannedIn (attributeAdded i (newEntry o n k v) f) s v f) (sym same)))
         (form-answers of q v f room z)

@@ -25,12 +25,11 @@ fn write_added(
     let d = layout::definition_count(store);
     let p = layout::particle_count(store);
     let a = layout::attribute_count(store);
-    if a >= layout::MAX_ATTRIBUTES {
+    if store_limits::attributes_full(a) {
         return store_writer::refused(16);
     }
     let i = attribute_form::attributes_to(store, owner);
-    let version = layout::version_in(store);
-    let plan = plans::add_attribute_plan(version, owner as usize, i, sort as u8);
+    let plan = attribute_plans::adding_plan(store, owner, i, sort);
     let mut form = [0; layout::MOST_FORM];
     let length = attribute_writer::put_added(store, i, owner, name, sort, value, &mut form);
     store_writer::edit_form(store, &form[..length], d, p, a + 1, plan, value, out)

@@ -1,7 +1,4 @@
 //! Change 12: an element added. The call is the check, the first refusal that applies, and the plan of the change.
-use filling::Filling;
-use row_walk::Later;
-use row_walk::Which;
 use store_writer::Answer;
 ghost use lib.ListN.{length};
 ghost use Rattle.rules.specs.Change.{addElement};
@@ -26,8 +23,6 @@ pub fn add_element(
     if number != 0 {
         return store_writer::refused(number);
     }
-    let row = document_refusals::child_serial(store, parent, child);
-    let filling = Filling::Definition(definition as usize);
-    let plan = plans::filling_plan(Which::Serial(parent), Later::Row(row), filling);
+    let plan = document_plans::adding_element(store, parent, child, definition);
     store_writer::edit(store, plan, text, out)
 }

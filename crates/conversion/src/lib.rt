@@ -1,8 +1,8 @@
-//! What change 6 asks of a model: the kind of the group by its code, and the edit.
+//! What changes 6 and 7 ask of a model: the kind of the group by its code, and the edits.
 use model_writer::Edit;
 use rules::GroupKind;
 ghost use mathlib.Core.Path.{_≡_};
-ghost use Rattle.rules.specs.Edit.{convert};
+ghost use Rattle.rules.specs.Edit.{convert, flatten};
 ghost use Rattle.rules.specs.Decode.{groupOf};
 ghost use Rattle.model_writer.specs.Writing.{editOf};
 
@@ -23,4 +23,11 @@ pub fn convert_edit(count: u32, sort: u32) -> Edit
 {
     let kind = group_kind(sort);
     Edit::Convert(kind, count as usize)
+}
+
+/// The edit that flattens a group into its list.
+pub fn flatten_edit() -> Edit
+    ensures { λ r. ⌜ editOf r ≡ flatten ⌝ }
+{
+    Edit::Flatten
 }

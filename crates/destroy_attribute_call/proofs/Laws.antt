@@ -66,8 +66,8 @@ module _ (bs : Bytes) (a : ℕ) (x : Droppable bs a) where
   stays : Holds bs
   stays = holds bs (x .passes)
 
-  module _ {d p count o r : ℕ} {q : Plan} {buffer left : Bytes} (cd : Number (definitionCount bs) d) (cp : Number (particleCount bs) p)
-      (ca : Number (attributeCount bs) count) (own : o ≡ ownerAt a (bodiesOf bs .attributes)) (same : q ≡ destroyAttributePlan o a)
+  module _ {d p count r : ℕ} {q : Plan} {buffer left : Bytes} (cd : Number (definitionCount bs) d) (cp : Number (particleCount bs) p)
+      (ca : Number (attributeCount bs) count) (same : q ≡ destroyAttributePlan (ownerAt a (bodiesOf bs .attributes)) a)
       (long : length buffer ≡ mostForm) (y : Laid (formBytes (widthOf bs) (attributeDropped a (bodiesOf bs))) buffer 0 r left) where
     without-bytes : {form : Bytes} → form ≡ formBytes (widthOf bs) (attributeDropped a (bodiesOf bs)) → FormOf (widthOf bs) (attributeDropped a (bodiesOf bs)) form d p (count - 1)
     without-bytes e =
@@ -101,6 +101,5 @@ module _ (bs : Bytes) (a : ℕ) (x : Droppable bs a) where
     dropped-answers room z =
         let f : FlatStore = bodiesOf bs in
         answers-equal
-        (ap (limited room)
-        (ap (λ (j : ℕ). plannedIn (attributeDropped a f) (destroyAttributePlan j a) [] f) (sym own) ∙ ap (λ (s : Plan). plannedIn (attributeDropped a f) s [] f) (sym same)))
+        (ap (limited room) (ap (λ (s : Plan). plannedIn (attributeDropped a f) s [] f) (sym same)))
         (form-answers without q [] f room z)

@@ -1,25 +1,14 @@
 //! Change 10: an attribute destroyed. The call is the check, the first refusal
 //! that applies, the new form and the plan of the change.
 use store_writer::Answer;
-ghost use mathlib.Core.Path.{_≡_};
 ghost use mathlib.Core.List.{[]};
 ghost use lib.ListN.{length};
 ghost use Rattle.rules.specs.Change.{destroyAttribute};
 ghost use Rattle.rules.specs.Outcome.{outcome, Answers};
 ghost use Rattle.lookup.specs.Bodies.{bodiesOf};
 ghost use Rattle.store_writer.specs.Writing.{limited};
-ghost use Rattle.plans.specs.AttributeCalls.{ownerAt};
 ghost use Rattle.attribute_writer.specs.Attributes.{Droppable};
 ghost use Rattle.destroy_attribute_call.specs.Dropped.{dropped};
-
-fn owner_of(store: &[u8], attribute: usize) -> usize
-    requires { ⌜ Droppable (now store) attribute ⌝ }
-    ensures { λ r. ⌜ r ≡ ownerAt attribute (bodiesOf (now (store .entry)) .attributes) ⌝ }
-{
-    let w = layout::width_in(store);
-    let attrs = layout::attributes_of(store);
-    layout::attribute_owner_at(w, attrs, attribute)
-}
 
 // The store without an attribute and its rows.
 fn write_dropped(store: &[u8], attribute: usize, out: &mut [u8]) -> Answer
@@ -29,7 +18,7 @@ fn write_dropped(store: &[u8], attribute: usize, out: &mut [u8]) -> Answer
     let d = layout::definition_count(store);
     let p = layout::particle_count(store);
     let a = layout::attribute_count(store);
-    let plan = plans::destroy_attribute_plan(owner_of(store, attribute), attribute);
+    let plan = attribute_plans::destroying_plan(store, attribute);
     let mut form = [0; layout::MOST_FORM];
     let length = attribute_writer::put_dropped(store, attribute, &mut form);
     store_writer::edit_form(store, &form[..length], d, p, a - 1, plan, &store[..0], out)

@@ -1,6 +1,5 @@
 //! Change 15: the row of an attribute destroyed. The call is the check, the first refusal that applies, and the plan of
 //! the change.
-use row_walk::Which;
 use store_writer::Answer;
 ghost use lib.ListN.{length};
 ghost use Rattle.rules.specs.Change.{destroyAttributeRow};
@@ -13,11 +12,10 @@ pub fn destroy_attribute_row(store: &[u8], element: u32, attribute: u32, out: &m
     if !store_check::passes(store) {
         return store_writer::refused(1);
     }
-    let number = document_refusals::destroy_attribute_row_refusal(store, element, attribute);
+    let number = attribute_row_refusals::destroy_attribute_row_refusal(store, element, attribute);
     if number != 0 {
         return store_writer::refused(number);
     }
-    let takes = Which::Attributes(attribute as usize);
-    let plan = plans::taking_plan(Which::Serial(element), takes);
+    let plan = document_plans::destroying_attribute_row(element, attribute);
     store_writer::edit(store, plan, &store[..0], out)
 }

@@ -1,5 +1,4 @@
 //! Change 13: an element destroyed. The call is the check, the first refusal that applies, and the plan of the change.
-use row_walk::Which;
 use store_writer::Answer;
 ghost use lib.ListN.{length};
 ghost use Rattle.rules.specs.Change.{destroyElement};
@@ -16,6 +15,6 @@ pub fn destroy_element(store: &[u8], element: u32, out: &mut [u8]) -> Answer
     if number != 0 {
         return store_writer::refused(number);
     }
-    let plan = plans::taking_plan(Which::Everything, Which::Serial(element));
+    let plan = document_plans::destroying_element(element);
     store_writer::edit(store, plan, &store[..0], out)
 }

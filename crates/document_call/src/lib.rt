@@ -1,7 +1,4 @@
 //! Change 11: a document added. The call is the check, the first refusal that applies, and the plan of the change.
-use filling::Filling;
-use row_walk::Later;
-use row_walk::Which;
 use store_writer::Answer;
 ghost use lib.ListN.{length};
 ghost use Rattle.rules.specs.Change.{addDocument};
@@ -18,7 +15,6 @@ pub fn add_document(store: &[u8], definition: u32, text: &[u8], out: &mut [u8]) 
     if number != 0 {
         return store_writer::refused(number);
     }
-    let filling = Filling::Definition(definition as usize);
-    let plan = plans::filling_plan(Which::Ground, Later::Never, filling);
+    let plan = document_plans::adding_document(definition);
     store_writer::edit(store, plan, text, out)
 }

@@ -25,15 +25,15 @@ use Rattle.change_laws.proofs.StandingLaws.{standing-child, standing-every, no-
 use Rattle.model.specs.Steps.{runs}
 use Rattle.store_check.proofs.IndexLaws.{name-of}
 use Rattle.store_laws.specs.Stores.{storeIn}
-use Rattle.document_refusals.specs.Finding.{ElementRowAt, ParentAt, childrenAt, modelAt, rowDefinitionKind, fitsAt, hasPlace, serialIn, word}
+use Rattle.document_rows.specs.Finding.{ElementRowAt, ParentAt, childrenAt, modelAt, rowDefinitionKind, fitsAt, hasPlace, serialIn, word}
 use Rattle.change_laws.specs.FirstCondition.{Gives}
 use Rattle.store_check.proofs.StoreFacts.{formIn, docsIn, byIndex, Whole}
-use Rattle.document_refusals.proofs.ElementFacts.{Element, NoElement, element-absent, Parent, parent-there, parent-absent, defined, elements-at, texts-at, serials-at}
+use Rattle.document_rows.proofs.ElementFacts.{Element, NoElement, Parent, parent-there, parent-absent, defined, elements-at, serials-at}
 use Rattle.document_refusals.proofs.ElementTests.{putAt}
 use Rattle.document_refusals.proofs.ElementsAfter.{ok, add-conforms, destroy-conforms, root-conforms}
 use Rattle.document_refusals.proofs.IndexWords.{AllPlain, Named, word-less, word-more, named-runs}
 use Rattle.change_laws.proofs.FirstCondition.{gives-hit, gives-next, gives-none}
-use Rattle.document_refusals.proofs.RefusalLaws.{kind-is}
+use Rattle.document_rows.proofs.RowFacts.{kind-is}
 use Rattle.rules.proofs.ConformingLaws.{is-element}
 use Rattle.rules.proofs.Words.{below-or}
 use Rattle.change_laws.proofs.InstanceRows.{keep-in}
@@ -243,15 +243,3 @@ module _ (bs : Bytes) (w : Whole bs) where
 
     pub complex-kind : c ≡ 2 → {b : Bool} → b ≡ a → b ≡ (isComplex (d f .content) && a)
     complex-kind h q = q ∙ sym (ap (λ (z : Bool). z && a) (complex-is (d f) (sym (kind-is bs w f) ∙ sym e ∙ h)))
-
-  -- ---- the readers
-  module _ {k i : ℕ} (f : Element bs k i) (n : ℕ) {r : ℕ} where
-    pub text-serial : r ≡ serialAt n (map serialIn (childrenAt bs 3 i)) → r ≡ serialAt n (childrenOf isTextRow k (rowsOf (storeIn bs)))
-    text-serial e = e ∙ ap (serialAt n) (serials-at bs w k i f 3 isTextRow (texts-at bs w k i f))
-
-    pub child-serial : r ≡ serialAt n (map serialIn (childrenAt bs 1 i)) → r ≡ serialAt n (childrenOf isElementRow k (rowsOf (storeIn bs)))
-    child-serial e = e ∙ ap (serialAt n) (serials-at bs w k i f 1 isElementRow (elements-at bs w k i f))
-
-  -- the row stands
-  pub there : {k i : ℕ} → ElementRowAt bs k i → noElement k (storeIn bs) ≡ false → i < rowCount bs
-  there {k} {i} f h = ⊎-elim (λ l. l) (λ l. absurd (false≢true (sym h ∙ element-absent bs w k i (f .begins) l .there))) (below-or i (rowCount bs))

@@ -25,7 +25,7 @@ use Rattle.store_check.specs.Reading.{Agrees}
 use Rattle.store_check.proofs.IndexLaws.{namesOf, known-index}
 use Rattle.store_check.proofs.ElementReads.{accepted}
 use Rattle.store_check.proofs.AttributeRows.{rowWritten}
-use Rattle.document_refusals.specs.Finding.{newName, keptName, word}
+use Rattle.document_rows.specs.Finding.{newName, keptName, word}
 use Rattle.document_refusals.proofs.ElementTests.{putAt}
 
 -- a row that is an element of a definition, with a serial

@@ -1,16 +1,7 @@
-pub mod SuffixLaws
-pub mod TreeLaws
-pub mod StepLaws
-pub mod SerialLaws
 pub mod ConformingTests
 pub mod ElementTests
 pub mod ParentLaws
 pub mod ElementsAfter
 pub mod IndexWords
-pub mod AttributeTests
-pub mod AttributesAfter
-pub mod ReaderLaws
 pub mod RefusalLaws
 pub mod ElementRefusals
-pub mod AttributeRefusals
-pub mod ElementFacts

@@ -14,11 +14,11 @@ use Rattle.rules.specs.Refusal.{conditions, isPcdata, pcdataElement}
 use Rattle.layout.specs.Bodies.{widthOf, WidthIn, Number, definitionsIn, treeRowsIn}
 use Rattle.form_index.specs.Reading.{definitionIn}
 use Rattle.store_laws.specs.Stores.{storeIn}
-use Rattle.document_refusals.specs.Finding.{ElementRowAt, ParentAt, RowOf, rowDefinitionKind}
+use Rattle.document_rows.specs.Finding.{rowDefinitionKind}
 use Rattle.change_laws.specs.FirstCondition.{Gives}
-use Rattle.document_refusals.proofs.SuffixLaws.{rowAt}
 use Rattle.store_check.proofs.StoreFacts.{formIn, Whole, bad-text, fine-text, past-definitions, within-definitions}
-use Rattle.document_refusals.proofs.ElementFacts.{Element, NoElement, element-there, element-absent, parent-there, defined}
+use Rattle.document_rows.proofs.ElementFacts.{Element, NoElement, defined}
+use Rattle.document_rows.proofs.RowFacts.{kind-is}
 use Rattle.change_laws.proofs.FirstCondition.{gives-hit, gives-next, gives-none}
 
 module _ (bs : Bytes) (w : Whole bs) where
@@ -35,31 +35,6 @@ module _ (bs : Bytes) (w : Whole bs) where
     pub document-0 : not a ≡ false → {m : ℕ} → Number (definitionCount bs) m → i < m → Gives 0 (conditions (addDocument i t) (storeIn bs))
     unfolding conditions
     document-0 h u l = gives-next (fine-text bs t v e h) (gives-next (within-definitions bs w u i l) gives-none)
-
-  -- ---- the element
-  module _ {k i : ℕ} (f : ElementRowAt bs k i) {n : ℕ} (e : Number (rowCount bs) n) where
-    pub seen : i < n → Element bs k i
-    seen l = element-there bs w k i (f .begins) (omega (arith, e .value))
-
-    pub unseen : n ≤ i → NoElement bs k
-    unseen l = element-absent bs w k i (f .begins) (omega (arith, e .value))
-
-  -- its definition
-  pub kind-limit : {k i : ℕ} → Element bs k i → rowAt (widthOf bs) (treeRowsIn bs) i .row .index ≤ 64
-  kind-limit {k} {i} e = let d = defined bs w k i e in omega (arith, d .index, d .below, w .agrees .size, w .fewDefinitions)
-
-  pub row-of : {k i : ℕ} → ElementRowAt bs k i → i < rowCount bs → RowOf bs i
-  row-of {k} {i} f l = record { small = l; few = f .few; index = kind-limit (element-there bs w k i (f .begins) l) }
-
-  pub parent-row : {k i : ℕ} → ParentAt bs k i → i < rowCount bs → RowOf bs i
-  parent-row {k} {i} f l = record { small = l; few = f .few; index = kind-limit (parent-there bs w k i (f .begins) l .parent) }
-
-  pub kind-is : {k i : ℕ} (e : Element bs k i) → rowDefinitionKind bs i ≡ kindCode (defined bs w k i e .definition .content)
-  kind-is {k} {i} e =
-      let d = defined bs w k i e in
-      ap (λ (j : ℕ). definitionIn (definitionsIn bs) j .kind) (d .index)
-      ∙ w .agrees .kind (indexOf (e .row .name) (formIn bs)) (d .below)
-      ∙ ap (λ (z : Definition). kindCode (z .content)) (d .at)
 
   pcdata-is : {k i : ℕ} (e : Element bs k i) → pcdataElement k (storeIn bs) ≡ isPcdata (some (defined bs w k i e .definition))
   pcdata-is {k} {i} e =
@@ -95,9 +70,9 @@ module _ (bs : Bytes) (w : Whole bs) where
     module _ (h : not a ≡ false) {i : ℕ} (x : Element bs k i) {c : ℕ} (kind : c ≡ rowDefinitionKind bs i) where
       pub text-9 : (c ≡ 1 → ⊥) → Gives 9 (conditions (setText k t) (storeIn bs))
       unfolding conditions
-      text-9 f = gives-next (fine-text bs t v e h) (gives-next (x .there) (gives-hit (ap not (pcdata-is x ∙ other-code (defined bs w k i x .definition) (λ z. f (kind ∙ kind-is x ∙ z))))))
+      text-9 f = gives-next (fine-text bs t v e h) (gives-next (x .there) (gives-hit (ap not (pcdata-is x ∙ other-code (defined bs w k i x .definition) (λ z. f (kind ∙ kind-is bs w x ∙ z))))))
 
       pub text-0 : c ≡ 1 → Gives 0 (conditions (setText k t) (storeIn bs))
       unfolding conditions
       text-0 f =
-          gives-next (fine-text bs t v e h) (gives-next (x .there) (gives-next (ap not (pcdata-is x ∙ pcdata-code (defined bs w k i x .definition) (sym (kind-is x) ∙ sym kind ∙ f))) gives-none))
+          gives-next (fine-text bs t v e h) (gives-next (x .there) (gives-next (ap not (pcdata-is x ∙ pcdata-code (defined bs w k i x .definition) (sym (kind-is bs w x) ∙ sym kind ∙ f))) gives-none))

@@ -1,6 +1,5 @@
 //! Change 7: a group flattened. The call is the check, the first refusal that applies or the place, and an edit of the
 //! owner's model there; all rows stay.
-use model_writer::Edit;
 use store_writer::Answer;
 ghost use lib.ListN.{length};
 ghost use Rattle.rules.specs.Change.{flattenGroup};
@@ -19,8 +18,9 @@ pub fn flatten_group(store: &[u8], owner: u32, place: &[u32], out: &mut [u8]) ->
         return store_writer::refused(number);
     }
     let o = owner as usize;
+    let edit = conversion::flatten_edit();
     let plan = plans::setting_plan(0);
     let h = group.holder;
     let p = group.particle;
-    model_edit::edit_model(store, o, Edit::Flatten, h, p, plan, &store[..0], out)
+    model_edit::edit_model(store, o, edit, h, p, plan, &store[..0], out)
 }

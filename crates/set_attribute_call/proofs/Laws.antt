@@ -21,7 +21,7 @@ use Rattle.row_walk.specs.declared.Plan.{Plan}
 use Rattle.store_laws.specs.Stores.{storeIn}
 use Rattle.planned_rows.specs.Walking.{Sized}
 use Rattle.store_writer.proofs.CallLaws.{passed}
-use Rattle.document_refusals.specs.Finding.{AttributeRefused}
+use Rattle.attribute_row_refusals.specs.Refused.{AttributeRefused}
 use Rattle.store_check.proofs.StoreFacts.{value-given, Whole, whole}
 use Rattle.store_check.proofs.AttributeOwners.{unowned}
 use Rattle.plans.specs.CallPlans.{fillingPlan, settingPlan, attributeSerial, setAttributePlan}

@@ -19,11 +19,10 @@ pub fn set_attribute(
     if !store_check::passes(store) {
         return store_writer::refused(1);
     }
-    let number = document_refusals::set_attribute_refusal(store, element, attribute, value);
+    let number = attribute_row_refusals::set_attribute_refusal(store, element, attribute, value);
     if number != 0 {
         return store_writer::refused(number);
     }
-    let row = document_refusals::attribute_serial(store, element, attribute);
-    let plan = plans::set_attribute_plan(element, attribute as usize, row);
+    let plan = document_plans::setting_attribute(store, element, attribute);
     store_writer::edit(store, plan, value, out)
 }

@@ -1,6 +1,8 @@
-//! Whether a store is too large, by its numbers: the ceiling of its rows, its serials, the room for its bytes.
+//! Whether a store is too large, by its numbers: the ceiling of its rows, its serials, the room for its bytes; the
+//! ceiling of its attributes.
 ghost use mathlib.Core.Path.{_≡_};
 ghost use Prim.Native.Nat.{_≤_};
+ghost use lib.Dec.{leb};
 ghost use Rattle.layout.specs.Bodies.{Width, mostForm};
 ghost use Rattle.store_limits.specs.Limits.{limitOf};
 
@@ -24,4 +26,11 @@ pub fn limit(w: usize, form: usize, count: usize, next: usize, room: usize) -> u
         return 18;
     }
     0
+}
+
+/// Whether a form of so many attributes takes no more.
+pub fn attributes_full(count: usize) -> bool
+    ensures { λ r. ⌜ r ≡ leb 64 count ⌝ }
+{
+    count >= layout::MAX_ATTRIBUTES
 }

@@ -16,6 +16,6 @@ pub fn set_text(store: &[u8], element: u32, text: &[u8], out: &mut [u8]) -> Answ
     if number != 0 {
         return store_writer::refused(number);
     }
-    let plan = plans::setting_plan(document_refusals::text_serial(store, element));
+    let plan = document_plans::setting_text(store, element);
     store_writer::edit(store, plan, text, out)
 }

@@ -2,6 +2,8 @@
 -- (`added-full` of Laws); else what `put_added` lays fits its buffer (`added-fits`, `added-long`), `edit_form` may be
 -- called (`added-asks`), and its answer is that for `added` (`added-answers`).
 use native.Mathlib.Omega.{arith}
+use borrow.Author.Tests.{leb-true, leb-false}
+use mathlib.Core.Path.{sym, _∙_}
 use lib.ListN.{length}
 use Rattle.attribute_form.proofs.CountLaws.{number-of-attributes}
 use Rattle.attribute_form.proofs.FormParts.{zeros-long}
@@ -19,70 +21,77 @@ particle-count-requires c κs = search needs
 attribute-count-requires : tie.Need-attribute-count-requires
 attribute-count-requires c κs = search needs
 
+attributes-full-requires : tie.Need-attributes-full-requires
+attributes-full-requires c κs = search needs
+
 refused-requires : tie.Need-refused-requires
 refused-requires c κs = search needs
 
 returns : tie.Need-returns
 returns c =
-    let at-attribute-count = c .before .before in
+    let at-full = c .before in
+    let at-attributes-full = at-full .before in
+    let at-attribute-count = at-attributes-full .before in
     let start = at-attribute-count .before .before .before .before .before .before .before in
     added-full (start .args .store .now) (start .args .owner) (start .args .name .now) (start .args .sort) (start .args .value .now) (start .pre) (length (start .args .out .now))
-    (at-attribute-count .attribute-count .ensures) (omega arith) (c .refused .ensures)
+    (at-attribute-count .attribute-count .ensures)
+    (leb-true 64 (at-attribute-count .attribute-count .result) (sym (at-attributes-full .attributes-full .ensures) ∙ at-full .if1 .taken)) (c .refused .ensures)
 
 attributes-to-requires : tie.Need-attributes-to-requires
 attributes-to-requires c κs = search needs
 
-version-in-requires : tie.Need-version-in-requires
-version-in-requires c κs = search needs
-
-cast-add-attribute-plan : tie.Need-cast-add-attribute-plan
-cast-add-attribute-plan c =
+adding-plan-requires : tie.Need-adding-plan-requires
+adding-plan-requires c κs =
     let start = c .before .before .before .before .before .before .before .before .before .before in
-    omega (arith, start .pre .sort)
-
-add-attribute-plan-requires : tie.Need-add-attribute-plan-requires
-add-attribute-plan-requires c κs = search needs
+    start .pre .sort
 
 slice-aggregate-put-added : tie.Need-slice-aggregate-put-added
 slice-aggregate-put-added c = search needs
 
 put-added-requires : tie.Need-put-added-requires
 put-added-requires c κs =
-    let at-attributes-to = c .before .before .before in
-    let at-attribute-count = at-attributes-to .before .before in
+    let at-attributes-to = c .before .before in
+    let at-full = at-attributes-to .before in
+    let at-attributes-full = at-full .before in
+    let at-attribute-count = at-attributes-full .before in
+    let few = leb-false 64 (at-attribute-count .attribute-count .result) (sym (at-attributes-full .attributes-full .ensures) ∙ at-full .if1 .left) in
     let start = at-attribute-count .before .before .before .before .before .before .before in (
       (start .pre),
       at-attributes-to .attributes-to .ensures .most,
-      omega (arith, at-attributes-to .attributes-to .ensures .most, number-of-attributes (start .args .store .now) (at-attribute-count .attribute-count .ensures)),
+      omega (arith, few, at-attributes-to .attributes-to .ensures .most, number-of-attributes (start .args .store .now) (at-attribute-count .attribute-count .ensures)),
     )
 
 array-share-prefix-form : tie.Need-array-share-prefix-form
 array-share-prefix-form c =
     let at-put-added = c .before in
-    let at-add-attribute-plan = at-put-added .before .before in
-    let at-version-in = at-add-attribute-plan .before in
-    let at-attributes-to = at-version-in .before in
-    let at-attribute-count = at-attributes-to .before .before in
+    let at-adding-plan = at-put-added .before .before in
+    let at-attributes-to = at-adding-plan .before in
+    let at-full = at-attributes-to .before in
+    let at-attributes-full = at-full .before in
+    let at-attribute-count = at-attributes-full .before in
+    let few = leb-false 64 (at-attribute-count .attribute-count .result) (sym (at-attributes-full .attributes-full .ensures) ∙ at-full .if1 .left) in
     let at-particle-count = at-attribute-count .before in
     let at-definition-count = at-particle-count .before in
     let start = at-definition-count .before .before .before .before .before in
     added-fits (start .args .store .now) (start .args .owner) (start .args .name .now) (start .args .sort) (start .args .value .now) (start .pre)
-    (at-definition-count .definition-count .ensures) (at-particle-count .particle-count .ensures) (at-attribute-count .attribute-count .ensures) (omega arith)
-    (at-attributes-to .attributes-to .ensures) (at-version-in .version-in .ensures) (at-add-attribute-plan .add-attribute-plan .ensures) zeros-long (at-put-added .put-added .ensures)
+    (at-definition-count .definition-count .ensures) (at-particle-count .particle-count .ensures) (at-attribute-count .attribute-count .ensures) few
+    (at-attributes-to .attributes-to .ensures) (at-adding-plan .adding-plan .ensures) zeros-long (at-put-added .put-added .ensures)
 
 slice-aggregate-edit-form : tie.Need-slice-aggregate-edit-form
 slice-aggregate-edit-form c =
     let at-put-added = c .before .before in
-    let at-add-attribute-plan = at-put-added .before .before in
-    let at-version-in = at-add-attribute-plan .before in
-    let at-attributes-to = at-version-in .before in
-    let at-attribute-count = at-attributes-to .before .before in
+    let at-adding-plan = at-put-added .before .before in
+    let at-attributes-to = at-adding-plan .before in
+    let at-full = at-attributes-to .before in
+    let at-attributes-full = at-full .before in
+    let at-attribute-count = at-attributes-full .before in
+    let few = leb-false 64 (at-attribute-count .attribute-count .result) (sym (at-attributes-full .attributes-full .ensures) ∙ at-full .if1 .left) in
     let at-particle-count = at-attribute-count .before in
     let at-definition-count = at-particle-count .before in
     let start = at-definition-count .before .before .before .before .before in
     added-long (start .args .store .now) (start .args .owner) (start .args .name .now) (start .args .sort) (start .args .value .now) (start .pre)
-    (at-definition-count .definition-count .ensures) (at-particle-count .particle-count .ensures) (at-attribute-count .attribute-count .ensures) (omega arith)
-    (at-attributes-to .attributes-to .ensures) (at-version-in .version-in .ensures) (at-add-attribute-plan .add-attribute-plan .ensures) zeros-long (at-put-added .put-added .ensures)
+    (at-definition-count .definition-count .ensures) (at-particle-count .particle-count .ensures) (at-attribute-count .attribute-count .ensures) few
+    (at-attributes-to .attributes-to .ensures) (at-adding-plan .adding-plan .ensures) zeros-long (at-put-added .put-added .ensures)
 
 add-edit-form : tie.Need-add-edit-form
 add-edit-form c = search needs
@@ -90,16 +99,18 @@ add-edit-form c = search needs
 edit-form-requires : tie.Need-edit-form-requires
 edit-form-requires c κs =
     let at-put-added = c .before .before .before in
-    let at-add-attribute-plan = at-put-added .before .before in
-    let at-version-in = at-add-attribute-plan .before in
-    let at-attributes-to = at-version-in .before in
-    let at-attribute-count = at-attributes-to .before .before in
+    let at-adding-plan = at-put-added .before .before in
+    let at-attributes-to = at-adding-plan .before in
+    let at-full = at-attributes-to .before in
+    let at-attributes-full = at-full .before in
+    let at-attribute-count = at-attributes-full .before in
+    let few = leb-false 64 (at-attribute-count .attribute-count .result) (sym (at-attributes-full .attributes-full .ensures) ∙ at-full .if1 .left) in
     let at-particle-count = at-attribute-count .before in
     let at-definition-count = at-particle-count .before in
     let start = at-definition-count .before .before .before .before .before in
     added-asks (start .args .store .now) (start .args .owner) (start .args .name .now) (start .args .sort) (start .args .value .now) (start .pre)
-    (at-definition-count .definition-count .ensures) (at-particle-count .particle-count .ensures) (at-attribute-count .attribute-count .ensures) (omega arith)
-    (at-attributes-to .attributes-to .ensures) (at-version-in .version-in .ensures) (at-add-attribute-plan .add-attribute-plan .ensures) zeros-long (at-put-added .put-added .ensures)
+    (at-definition-count .definition-count .ensures) (at-particle-count .particle-count .ensures) (at-attribute-count .attribute-count .ensures) few
+    (at-attributes-to .attributes-to .ensures) (at-adding-plan .adding-plan .ensures) zeros-long (at-put-added .put-added .ensures)
 
 same-length : tie.Need-same-length
 same-length c = search needs
@@ -108,16 +119,18 @@ returns-2 : tie.Need-returns-2
 returns-2 c =
     let at-edit-form = c .before .before in
     let at-put-added = at-edit-form .before .before .before .before in
-    let at-add-attribute-plan = at-put-added .before .before in
-    let at-version-in = at-add-attribute-plan .before in
-    let at-attributes-to = at-version-in .before in
-    let at-attribute-count = at-attributes-to .before .before in
+    let at-adding-plan = at-put-added .before .before in
+    let at-attributes-to = at-adding-plan .before in
+    let at-full = at-attributes-to .before in
+    let at-attributes-full = at-full .before in
+    let at-attribute-count = at-attributes-full .before in
+    let few = leb-false 64 (at-attribute-count .attribute-count .result) (sym (at-attributes-full .attributes-full .ensures) ∙ at-full .if1 .left) in
     let at-particle-count = at-attribute-count .before in
     let at-definition-count = at-particle-count .before in
     let start = at-definition-count .before .before .before .before .before in
     added-answers (start .args .store .now) (start .args .owner) (start .args .name .now) (start .args .sort) (start .args .value .now) (start .pre)
-    (at-definition-count .definition-count .ensures) (at-particle-count .particle-count .ensures) (at-attribute-count .attribute-count .ensures) (omega arith)
-    (at-attributes-to .attributes-to .ensures) (at-version-in .version-in .ensures) (at-add-attribute-plan .add-attribute-plan .ensures) zeros-long
+    (at-definition-count .definition-count .ensures) (at-particle-count .particle-count .ensures) (at-attribute-count .attribute-count .ensures) few
+    (at-attributes-to .attributes-to .ensures) (at-adding-plan .adding-plan .ensures) zeros-long
     (at-put-added .put-added .ensures) (length (start .args .out .now))
     (at-edit-form .edit-form .ensures)
 
@@ -128,12 +141,11 @@ write-added-spec =
     definition-count-requires
     particle-count-requires
     attribute-count-requires
+    attributes-full-requires
     refused-requires
     returns
     attributes-to-requires
-    version-in-requires
-    cast-add-attribute-plan
-    add-attribute-plan-requires
+    adding-plan-requires
     slice-aggregate-put-added
     put-added-requires
     array-share-prefix-form

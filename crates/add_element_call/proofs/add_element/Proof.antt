@@ -1,9 +1,7 @@
 -- `add_element_call::add_element` meets its contract: the returns are for a bad store (`bad` of CallLaws), a condition
 -- (`turned-away`) and the answer of `edit` (`made-planned` of Calls, `add-element-planned` of CallsPlanned); what
--- `child_serial` and `edit` require is `add-element-there` and `add-element-asks` of Laws.
+-- `adding_element` and `edit` require is `add-element-there` and `add-element-asks` of Laws.
 use borrow.Author.Needs.{needs}
-use mathlib.Core.Path.{_∙_, ap}
-use Prim.Native.Nat.{ℕ}
 use lib.ListN.{length}
 use Rattle.rules.specs.Change.{addElement}
 use Rattle.store_laws.specs.Stores.{storeIn}
@@ -46,29 +44,25 @@ returns-2 c =
     (length (start .args .out .now)) (start .args .out .now) (at-if1 .if1 .left) (at-passes .passes .ensures)
     (at-add-element-refusal .add-element-refusal .ensures) (c .before .if2 .taken) (c .refused2 .ensures)
 
-child-serial-requires : tie.Need-child-serial-requires
-child-serial-requires c κs =
+adding-element-requires : tie.Need-adding-element-requires
+adding-element-requires c κs =
     let at-if1 = c .before .before in
     let at-passes = at-if1 .before in
     let start = at-passes .before .before .before .before in
     add-element-there (start .args .store .now) (at-if1 .if1 .left) (at-passes .passes .ensures) (start .args .parent) (start .args .child)
     (start .args .definition) (start .args .text .now) (c .before .add-element-refusal .ensures) (c .if2 .left)
 
-filling-plan-requires : tie.Need-filling-plan-requires
-filling-plan-requires c κs = search needs
-
 edit-requires : tie.Need-edit-requires
 edit-requires c κs =
-    let at-child-serial = c .before .before in
-    let at-if2 = at-child-serial .before in
+    let at-adding-element = c .before in
+    let at-if2 = at-adding-element .before in
     let at-add-element-refusal = at-if2 .before in
     let at-if1 = at-add-element-refusal .before in
     let at-passes = at-if1 .before in
     let start = at-passes .before .before .before .before in
     add-element-asks (start .args .store .now) (at-if1 .if1 .left) (at-passes .passes .ensures) (start .args .parent) (start .args .child)
     (start .args .definition) (start .args .text .now) (at-add-element-refusal .add-element-refusal .ensures) (at-if2 .if2 .left)
-    (c .before .filling-plan .ensures
-    ∙ ap (λ (x : ℕ). addElementPlan (start .args .parent) x (start .args .definition)) (at-child-serial .child-serial .ensures))
+    (at-adding-element .adding-element .ensures)
 
 same-length : tie.Need-same-length
 same-length c = search needs
@@ -76,9 +70,8 @@ same-length c = search needs
 returns-3 : tie.Need-returns-3
 returns-3 c =
     let at-edit = c .before .before in
-    let at-filling-plan = at-edit .before .before in
-    let at-child-serial = at-filling-plan .before in
-    let at-if2 = at-child-serial .before in
+    let at-adding-element = at-edit .before .before in
+    let at-if2 = at-adding-element .before in
     let at-add-element-refusal = at-if2 .before in
     let at-if1 = at-add-element-refusal .before in
     let at-passes = at-if1 .before in
@@ -88,8 +81,7 @@ returns-3 c =
     (addElementPlan (start .args .parent) (childSerial (start .args .parent) (start .args .child) (storeIn (start .args .store .now)))
     (start .args .definition))
     _ (start .args .text .now) (at-if1 .if1 .left) (at-passes .passes .ensures) (at-add-element-refusal .add-element-refusal .ensures) (at-if2 .if2 .left)
-    (at-filling-plan .filling-plan .ensures
-    ∙ ap (λ (x : ℕ). addElementPlan (start .args .parent) x (start .args .definition)) (at-child-serial .child-serial .ensures))
+    (at-adding-element .adding-element .ensures)
     (λ g e. add-element-planned (storeIn (start .args .store .now)) g (start .args .parent) (start .args .child) (start .args .definition)
     (start .args .text .now) e)
     (at-edit .edit .ensures)
@@ -104,8 +96,7 @@ add-element-spec =
     add-element-refusal-requires
     refused-requires-2
     returns-2
-    child-serial-requires
-    filling-plan-requires
+    adding-element-requires
     edit-requires
     same-length
     returns-3)

@@ -19,11 +19,10 @@ particle-count-requires c κs = search needs
 attribute-count-requires : tie.Need-attribute-count-requires
 attribute-count-requires c κs = search needs
 
-owner-of-requires : tie.Need-owner-of-requires
-owner-of-requires c κs = search needs
-
-destroy-attribute-plan-requires : tie.Need-destroy-attribute-plan-requires
-destroy-attribute-plan-requires c κs = search needs
+destroying-plan-requires : tie.Need-destroying-plan-requires
+destroying-plan-requires c κs =
+    let start = c .before .before .before .before .before in
+    (start .pre .inside, start .pre .small)
 
 slice-aggregate-put-dropped : tie.Need-slice-aggregate-put-dropped
 slice-aggregate-put-dropped c = search needs
@@ -34,32 +33,30 @@ put-dropped-requires c κs = search needs
 array-share-prefix-form : tie.Need-array-share-prefix-form
 array-share-prefix-form c =
     let at-put-dropped = c .before in
-    let at-destroy-attribute-plan = at-put-dropped .before .before in
-    let at-owner-of = at-destroy-attribute-plan .before in
-    let at-attribute-count = at-owner-of .before in
+    let at-destroying-plan = at-put-dropped .before .before in
+    let at-attribute-count = at-destroying-plan .before in
     let at-particle-count = at-attribute-count .before in
     let at-definition-count = at-particle-count .before in
     let start = at-definition-count .before .before .before in
     dropped-fits (start .args .store .now) (start .args .attribute) (start .pre) (at-definition-count .definition-count .ensures) (at-particle-count .particle-count .ensures)
-    (at-attribute-count .attribute-count .ensures) (at-owner-of .owner-of .ensures) (at-destroy-attribute-plan .destroy-attribute-plan .ensures) zeros-long
+    (at-attribute-count .attribute-count .ensures) (at-destroying-plan .destroying-plan .ensures) zeros-long
     (at-put-dropped .put-dropped .ensures)
 
 slice-aggregate-edit-form : tie.Need-slice-aggregate-edit-form
 slice-aggregate-edit-form c =
     let at-put-dropped = c .before .before in
-    let at-destroy-attribute-plan = at-put-dropped .before .before in
-    let at-owner-of = at-destroy-attribute-plan .before in
-    let at-attribute-count = at-owner-of .before in
+    let at-destroying-plan = at-put-dropped .before .before in
+    let at-attribute-count = at-destroying-plan .before in
     let at-particle-count = at-attribute-count .before in
     let at-definition-count = at-particle-count .before in
     let start = at-definition-count .before .before .before in
     dropped-long (start .args .store .now) (start .args .attribute) (start .pre) (at-definition-count .definition-count .ensures) (at-particle-count .particle-count .ensures)
-    (at-attribute-count .attribute-count .ensures) (at-owner-of .owner-of .ensures) (at-destroy-attribute-plan .destroy-attribute-plan .ensures) zeros-long
+    (at-attribute-count .attribute-count .ensures) (at-destroying-plan .destroying-plan .ensures) zeros-long
     (at-put-dropped .put-dropped .ensures)
 
 sub-edit-form : tie.Need-sub-edit-form
 sub-edit-form c =
-    let at-attribute-count = c .before .before .before .before .before .before in
+    let at-attribute-count = c .before .before .before .before .before in
     let start = at-attribute-count .before .before .before .before .before in
     omega (arith, start .pre .inside, number-of-attributes (start .args .store .now) (at-attribute-count .attribute-count .ensures))
 
@@ -69,14 +66,13 @@ slice-aggregate-edit-form-2 c = search needs
 edit-form-requires : tie.Need-edit-form-requires
 edit-form-requires c κs =
     let at-put-dropped = c .before .before .before .before in
-    let at-destroy-attribute-plan = at-put-dropped .before .before in
-    let at-owner-of = at-destroy-attribute-plan .before in
-    let at-attribute-count = at-owner-of .before in
+    let at-destroying-plan = at-put-dropped .before .before in
+    let at-attribute-count = at-destroying-plan .before in
     let at-particle-count = at-attribute-count .before in
     let at-definition-count = at-particle-count .before in
     let start = at-definition-count .before .before .before in
     dropped-asks (start .args .store .now) (start .args .attribute) (start .pre) (at-definition-count .definition-count .ensures) (at-particle-count .particle-count .ensures)
-    (at-attribute-count .attribute-count .ensures) (at-owner-of .owner-of .ensures) (at-destroy-attribute-plan .destroy-attribute-plan .ensures) zeros-long
+    (at-attribute-count .attribute-count .ensures) (at-destroying-plan .destroying-plan .ensures) zeros-long
     (at-put-dropped .put-dropped .ensures)
 
 same-length : tie.Need-same-length
@@ -86,14 +82,13 @@ returns : tie.Need-returns
 returns c =
     let at-edit-form = c .before .before in
     let at-put-dropped = at-edit-form .before .before .before .before .before in
-    let at-destroy-attribute-plan = at-put-dropped .before .before in
-    let at-owner-of = at-destroy-attribute-plan .before in
-    let at-attribute-count = at-owner-of .before in
+    let at-destroying-plan = at-put-dropped .before .before in
+    let at-attribute-count = at-destroying-plan .before in
     let at-particle-count = at-attribute-count .before in
     let at-definition-count = at-particle-count .before in
     let start = at-definition-count .before .before .before in
     dropped-answers (start .args .store .now) (start .args .attribute) (start .pre) (at-definition-count .definition-count .ensures) (at-particle-count .particle-count .ensures)
-    (at-attribute-count .attribute-count .ensures) (at-owner-of .owner-of .ensures) (at-destroy-attribute-plan .destroy-attribute-plan .ensures) zeros-long
+    (at-attribute-count .attribute-count .ensures) (at-destroying-plan .destroying-plan .ensures) zeros-long
     (at-put-dropped .put-dropped .ensures) (length (start .args .out .now)) (at-edit-form .edit-form .ensures)
 
 pub write-dropped-spec : {M : Type 1} → statement M
@@ -103,8 +98,7 @@ write-dropped-spec =
     definition-count-requires
     particle-count-requires
     attribute-count-requires
-    owner-of-requires
-    destroy-attribute-plan-requires
+    destroying-plan-requires
     slice-aggregate-put-dropped
     put-dropped-requires
     array-share-prefix-form

@@ -45,23 +45,23 @@ returns-2 c =
     (start .args .out .now) (at-if1 .if1 .left) (at-passes .passes .ensures) (at-destroy-attribute-row-refusal .destroy-attribute-row-refusal .ensures)
     (c .before .if2 .taken) (c .refused2 .ensures)
 
-taking-plan-requires : tie.Need-taking-plan-requires
-taking-plan-requires c κs = search needs
+destroying-attribute-row-requires : tie.Need-destroying-attribute-row-requires
+destroying-attribute-row-requires c κs = search needs
 
 slice-aggregate-edit : tie.Need-slice-aggregate-edit
 slice-aggregate-edit c = search needs
 
 edit-requires : tie.Need-edit-requires
 edit-requires c κs =
-    let at-taking-plan = c .before .before in
-    let at-if2 = at-taking-plan .before in
+    let at-destroying-attribute-row = c .before .before in
+    let at-if2 = at-destroying-attribute-row .before in
     let at-destroy-attribute-row-refusal = at-if2 .before in
     let at-if1 = at-destroy-attribute-row-refusal .before in
     let at-passes = at-if1 .before in
     let start = at-passes .before .before .before in
     takes-asks (start .args .store .now) (at-if1 .if1 .left) (at-passes .passes .ensures) (destroyAttributeRow (start .args .element) (start .args .attribute))
     (Serial (start .args .element)) (Attributes (start .args .attribute)) (at-destroy-attribute-row-refusal .destroy-attribute-row-refusal .ensures)
-    (at-if2 .if2 .left) (at-taking-plan .taking-plan .ensures)
+    (at-if2 .if2 .left) (at-destroying-attribute-row .destroying-attribute-row .ensures)
 
 same-length : tie.Need-same-length
 same-length c = search needs
@@ -69,15 +69,15 @@ same-length c = search needs
 returns-3 : tie.Need-returns-3
 returns-3 c =
     let at-edit = c .before .before in
-    let at-taking-plan = at-edit .before .before .before in
-    let at-if2 = at-taking-plan .before in
+    let at-destroying-attribute-row = at-edit .before .before .before in
+    let at-if2 = at-destroying-attribute-row .before in
     let at-destroy-attribute-row-refusal = at-if2 .before in
     let at-if1 = at-destroy-attribute-row-refusal .before in
     let at-passes = at-if1 .before in
     let start = at-passes .before .before .before in
     made-planned (destroyAttributeRow (start .args .element) (start .args .attribute)) (start .args .store .now) (length (start .args .out .now))
     (start .args .out .now) (destroyAttributeRowPlan (start .args .element) (start .args .attribute)) _ [] (at-if1 .if1 .left) (at-passes .passes .ensures)
-    (at-destroy-attribute-row-refusal .destroy-attribute-row-refusal .ensures) (at-if2 .if2 .left) (at-taking-plan .taking-plan .ensures)
+    (at-destroy-attribute-row-refusal .destroy-attribute-row-refusal .ensures) (at-if2 .if2 .left) (at-destroying-attribute-row .destroying-attribute-row .ensures)
     (λ g e. destroy-attribute-row-planned (storeIn (start .args .store .now)) g (start .args .element) (start .args .attribute) [] e)
     (at-edit .edit .ensures)
 
@@ -91,7 +91,7 @@ destroy-attribute-row-spec =
     destroy-attribute-row-refusal-requires
     refused-requires-2
     returns-2
-    taking-plan-requires
+    destroying-attribute-row-requires
     slice-aggregate-edit
     edit-requires
     same-length

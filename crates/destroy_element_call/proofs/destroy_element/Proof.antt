@@ -44,23 +44,23 @@ returns-2 c =
     turned-away (destroyElement (start .args .element)) (start .args .store .now) (length (start .args .out .now)) (start .args .out .now) (at-if1 .if1 .left)
     (at-passes .passes .ensures) (at-destroy-element-refusal .destroy-element-refusal .ensures) (c .before .if2 .taken) (c .refused2 .ensures)
 
-taking-plan-requires : tie.Need-taking-plan-requires
-taking-plan-requires c κs = search needs
+destroying-element-requires : tie.Need-destroying-element-requires
+destroying-element-requires c κs = search needs
 
 slice-aggregate-edit : tie.Need-slice-aggregate-edit
 slice-aggregate-edit c = search needs
 
 edit-requires : tie.Need-edit-requires
 edit-requires c κs =
-    let at-taking-plan = c .before .before in
-    let at-if2 = at-taking-plan .before in
+    let at-destroying-element = c .before .before in
+    let at-if2 = at-destroying-element .before in
     let at-destroy-element-refusal = at-if2 .before in
     let at-if1 = at-destroy-element-refusal .before in
     let at-passes = at-if1 .before in
     let start = at-passes .before .before .before in
     takes-asks (start .args .store .now) (at-if1 .if1 .left) (at-passes .passes .ensures) (destroyElement (start .args .element)) Everything
     (Serial (start .args .element)) (at-destroy-element-refusal .destroy-element-refusal .ensures) (at-if2 .if2 .left)
-    (at-taking-plan .taking-plan .ensures)
+    (at-destroying-element .destroying-element .ensures)
 
 same-length : tie.Need-same-length
 same-length c = search needs
@@ -68,15 +68,15 @@ same-length c = search needs
 returns-3 : tie.Need-returns-3
 returns-3 c =
     let at-edit = c .before .before in
-    let at-taking-plan = at-edit .before .before .before in
-    let at-if2 = at-taking-plan .before in
+    let at-destroying-element = at-edit .before .before .before in
+    let at-if2 = at-destroying-element .before in
     let at-destroy-element-refusal = at-if2 .before in
     let at-if1 = at-destroy-element-refusal .before in
     let at-passes = at-if1 .before in
     let start = at-passes .before .before .before in
     made-planned (destroyElement (start .args .element)) (start .args .store .now) (length (start .args .out .now)) (start .args .out .now)
     (destroyElementPlan (start .args .element)) _ [] (at-if1 .if1 .left) (at-passes .passes .ensures)
-    (at-destroy-element-refusal .destroy-element-refusal .ensures) (at-if2 .if2 .left) (at-taking-plan .taking-plan .ensures)
+    (at-destroy-element-refusal .destroy-element-refusal .ensures) (at-if2 .if2 .left) (at-destroying-element .destroying-element .ensures)
     (λ g e. destroy-element-planned (storeIn (start .args .store .now)) g (start .args .element) []) (at-edit .edit .ensures)
 
 pub destroy-element-spec : {M : Type 1} → statement M
@@ -89,7 +89,7 @@ destroy-element-spec =
     destroy-element-refusal-requires
     refused-requires-2
     returns-2
-    taking-plan-requires
+    destroying-element-requires
     slice-aggregate-edit
     edit-requires
     same-length

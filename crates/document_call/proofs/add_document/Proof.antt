@@ -44,8 +44,8 @@ returns-2 c =
     (start .args .out .now) (at-if1 .if1 .left) (at-passes .passes .ensures) (at-add-document-refusal .add-document-refusal .ensures)
     (c .before .if2 .taken) (c .refused2 .ensures)
 
-filling-plan-requires : tie.Need-filling-plan-requires
-filling-plan-requires c κs = search needs
+adding-document-requires : tie.Need-adding-document-requires
+adding-document-requires c κs = search needs
 
 edit-requires : tie.Need-edit-requires
 edit-requires c κs =
@@ -55,7 +55,7 @@ edit-requires c κs =
     let at-passes = at-if1 .before in
     let start = at-passes .before .before .before .before in
     add-document-asks (start .args .store .now) (at-if1 .if1 .left) (at-passes .passes .ensures) (start .args .definition) (start .args .text .now)
-    (at-add-document-refusal .add-document-refusal .ensures) (at-if2 .if2 .left) (c .before .filling-plan .ensures)
+    (at-add-document-refusal .add-document-refusal .ensures) (at-if2 .if2 .left) (c .before .adding-document .ensures)
 
 same-length : tie.Need-same-length
 same-length c = search needs
@@ -63,15 +63,15 @@ same-length c = search needs
 returns-3 : tie.Need-returns-3
 returns-3 c =
     let at-edit = c .before .before in
-    let at-filling-plan = at-edit .before .before in
-    let at-if2 = at-filling-plan .before in
+    let at-adding-document = at-edit .before .before in
+    let at-if2 = at-adding-document .before in
     let at-add-document-refusal = at-if2 .before in
     let at-if1 = at-add-document-refusal .before in
     let at-passes = at-if1 .before in
     let start = at-passes .before .before .before .before in
     made-planned (addDocument (start .args .definition) (start .args .text .now)) (start .args .store .now) (length (start .args .out .now))
     (start .args .out .now) (addDocumentPlan (start .args .definition)) _ (start .args .text .now) (at-if1 .if1 .left) (at-passes .passes .ensures)
-    (at-add-document-refusal .add-document-refusal .ensures) (at-if2 .if2 .left) (at-filling-plan .filling-plan .ensures)
+    (at-add-document-refusal .add-document-refusal .ensures) (at-if2 .if2 .left) (at-adding-document .adding-document .ensures)
     (λ g e. add-document-planned (storeIn (start .args .store .now)) g (start .args .definition) (start .args .text .now) e) (at-edit .edit .ensures)
 
 pub add-document-spec : {M : Type 1} → statement M
@@ -84,7 +84,7 @@ add-document-spec =
     add-document-refusal-requires
     refused-requires-2
     returns-2
-    filling-plan-requires
+    adding-document-requires
     edit-requires
     same-length
     returns-3)

@@ -6,9 +6,9 @@ use native.Mathlib.Omega.{arith}
 use native.Mathlib.Numerals.{add-one}
 use borrow.Author.Tests.{not-true, not-false}
 use Prim.Native.Nat.{ℕ, suc}
-use Rattle.document_refusals.specs.Finding.{fitsAt}
+use Rattle.document_rows.specs.Finding.{fitsAt}
 use Rattle.store_check.proofs.StoreFacts.{Whole, whole}
-use Rattle.document_refusals.proofs.RefusalLaws.{seen, unseen, row-of}
+use Rattle.document_rows.proofs.RowFacts.{seen, unseen, row-of}
 use Rattle.document_refusals.proofs.ElementRefusals.{add-early, add-7, add-8, add-15, add-0, other-kind, complex-kind, definition-small}
 use borrow.Author.Needs.{needs}
 use Rattle.document_refusals.proofs.add_element_refusal.Statement.{statement}

@@ -3,7 +3,7 @@
 -- children (`destroy-15`) or does (`destroy-0`).
 use native.Mathlib.Omega.{arith}
 use Rattle.store_check.proofs.StoreFacts.{Whole, whole}
-use Rattle.document_refusals.proofs.RefusalLaws.{seen, unseen, parent-row}
+use Rattle.document_rows.proofs.RowFacts.{seen, unseen, parent-row}
 use Rattle.document_refusals.proofs.ElementRefusals.{destroy-7, destroy-root, destroy-15, destroy-0}
 use borrow.Author.Needs.{needs}
 use Rattle.document_refusals.proofs.destroy_element_refusal.Statement.{statement}

@@ -2,7 +2,8 @@
 -- decide the three conditions of `setText` in their order (`text-3`, `text-7`, `text-9`, `text-0` of RefusalLaws).
 use native.Mathlib.Omega.{arith}
 use Rattle.store_check.proofs.StoreFacts.{Whole, whole}
-use Rattle.document_refusals.proofs.RefusalLaws.{text-3, text-7, text-9, text-0, seen, unseen, row-of}
+use Rattle.document_refusals.proofs.RefusalLaws.{text-3, text-7, text-9, text-0}
+use Rattle.document_rows.proofs.RowFacts.{seen, unseen, row-of}
 use borrow.Author.Needs.{needs}
 use Rattle.document_refusals.proofs.set_text_refusal.Statement.{statement}
 use Rattle.document_refusals.proofs.set_text_refusal.Tie as tie

@@ -1,12 +1,11 @@
 -- `flatten_call::flatten_group` meets its contract: a store that does not pass is refused with 1 (`bad` of
 -- CallLaws), a condition that holds gives its number (`turned-away`); else the edit fits its place (`flatten-fits`
 -- of Laws; `asks` of Fits) and keeps all rows (`kept-answers` of Keeping, by `flatten-form`, `flatten-plan`).
-use mathlib.Core.Path.{refl, sym, _∙_}
+use mathlib.Core.Path.{sym, _∙_}
 use lib.ListN.{length}
 use Rattle.rules.specs.Lines.{lines}
 use Rattle.rules.specs.Change.{flattenGroup}
 use Rattle.store_laws.specs.Stores.{storeIn}
-use Rattle.model_writer.specs.declared.Edit.the-variants.{Flatten}
 use Rattle.store_writer.proofs.CallLaws.{passed, bad, turned-away}
 use Rattle.model_edit.proofs.Fits.{asks}
 use Rattle.model_edit.proofs.Keeping.{kept-answers, keeping-sized}
@@ -52,6 +51,9 @@ returns-2 c =
     turned-away (flattenGroup (a .owner) (a .place .now)) (a .store .now) (length (a .out .now)) (a .out .now)
     (at-if1 .if1 .left) (at-passes .passes .ensures) (at-flatten-group-refusal .flatten-group-refusal .ensures .0) (at-if2 .if2 .taken) (c .refused2 .ensures)
 
+flatten-edit-requires : tie.Need-flatten-edit-requires
+flatten-edit-requires c κs = search needs
+
 setting-plan-requires : tie.Need-setting-plan-requires
 setting-plan-requires c κs = search needs
 
@@ -61,7 +63,8 @@ slice-aggregate-edit-model c = search needs
 edit-model-requires : tie.Need-edit-model-requires
 edit-model-requires c κs =
     let at-setting-plan = c .before .before .before in
-    let at-if2 = at-setting-plan .before in
+    let at-flatten-edit = at-setting-plan .before in
+    let at-if2 = at-flatten-edit .before in
     let at-flatten-group-refusal = at-if2 .before in
     let at-if1 = at-flatten-group-refusal .before in
     let at-passes = at-if1 .before in
@@ -70,7 +73,9 @@ edit-model-requires c κs =
     let none = sym (at-flatten-group-refusal .flatten-group-refusal .ensures .0) ∙ at-if2 .if2 .left in
     let fits = flatten-fits (a .store .now) (passed (a .store .now) (at-if1 .if1 .left) (at-passes .passes .ensures)) (a .owner) (a .place .now) none in
     let place = at-flatten-group-refusal .flatten-group-refusal .ensures .1 .found (at-if2 .if2 .left) in
-    (asks fits Flatten refl place, none-value (widthOf (a .store .now)), keeping-sized (at-setting-plan .setting-plan .ensures))
+    let edit = at-flatten-edit .flatten-edit .result in
+    let same = at-flatten-edit .flatten-edit .ensures in
+    (asks fits edit same place, none-value (widthOf (a .store .now)), keeping-sized (at-setting-plan .setting-plan .ensures))
 
 same-length : tie.Need-same-length
 same-length c = search needs
@@ -79,7 +84,8 @@ returns-3 : tie.Need-returns-3
 returns-3 c =
     let at-edit-model = c .before .before in
     let at-setting-plan = at-edit-model .before .before .before .before in
-    let at-if2 = at-setting-plan .before in
+    let at-flatten-edit = at-setting-plan .before in
+    let at-if2 = at-flatten-edit .before in
     let at-flatten-group-refusal = at-if2 .before in
     let at-if1 = at-flatten-group-refusal .before in
     let at-passes = at-if1 .before in
@@ -88,7 +94,9 @@ returns-3 c =
     let none = sym (at-flatten-group-refusal .flatten-group-refusal .ensures .0) ∙ at-if2 .if2 .left in
     let fits = flatten-fits (a .store .now) (passed (a .store .now) (at-if1 .if1 .left) (at-passes .passes .ensures)) (a .owner) (a .place .now) none in
     let place = at-flatten-group-refusal .flatten-group-refusal .ensures .1 .found (at-if2 .if2 .left) in
-    kept-answers fits Flatten refl place (flattenGroup (a .owner) (a .place .now)) (length (a .out .now)) _ (at-setting-plan .setting-plan .ensures)
+    let edit = at-flatten-edit .flatten-edit .result in
+    let same = at-flatten-edit .flatten-edit .ensures in
+    kept-answers fits edit same place (flattenGroup (a .owner) (a .place .now)) (length (a .out .now)) _ (at-setting-plan .setting-plan .ensures)
     (at-flatten-group-refusal .flatten-group-refusal .ensures .0) (at-if2 .if2 .left) (flatten-form (a .owner) (a .place .now) (storeIn (a .store .now) .form))
     (flatten-plan (a .owner) (a .place .now) (storeIn (a .store .now) .version) (storeIn (a .store .now) .form) (lines 0 (storeIn (a .store .now) .docs)))
     (at-edit-model .edit-model .ensures)
@@ -103,6 +111,7 @@ flatten-group-spec =
     flatten-group-refusal-requires
     refused-requires-2
     returns-2
+    flatten-edit-requires
     setting-plan-requires
     slice-aggregate-edit-model
     edit-model-requires

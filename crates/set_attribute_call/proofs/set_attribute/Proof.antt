@@ -2,8 +2,6 @@
 -- (`bad`, `turned-away` of CallLaws). Else what its calls require holds (`set-attribute-there`, `set-attribute-asks` of
 -- Laws), and the plan does what the change does (`set-attribute-planned` of CallsPlanned, `made-planned` of Calls).
 use borrow.Author.Needs.{needs}
-use mathlib.Core.Path.{_∙_, ap}
-use Prim.Native.Nat.{ℕ}
 use lib.ListN.{length}
 use Rattle.rules.specs.Change.{setAttribute}
 use Rattle.store_laws.specs.Stores.{storeIn}
@@ -46,29 +44,25 @@ returns-2 c =
     (length (start .args .out .now)) (start .args .out .now) (at-if1 .if1 .left) (at-passes .passes .ensures)
     (at-set-attribute-refusal .set-attribute-refusal .ensures) (c .before .if2 .taken) (c .refused2 .ensures)
 
-attribute-serial-requires : tie.Need-attribute-serial-requires
-attribute-serial-requires c κs =
+setting-attribute-requires : tie.Need-setting-attribute-requires
+setting-attribute-requires c κs =
     let at-if1 = c .before .before in
     let at-passes = at-if1 .before in
     let start = at-passes .before .before .before .before in
     set-attribute-there (start .args .store .now) (at-if1 .if1 .left) (at-passes .passes .ensures) (start .args .element) (start .args .attribute)
     (start .args .value .now) (c .before .set-attribute-refusal .ensures) (c .if2 .left)
 
-set-attribute-plan-requires : tie.Need-set-attribute-plan-requires
-set-attribute-plan-requires c κs = search needs
-
 edit-requires : tie.Need-edit-requires
 edit-requires c κs =
-    let at-attribute-serial = c .before .before in
-    let at-if2 = at-attribute-serial .before in
+    let at-setting-attribute = c .before in
+    let at-if2 = at-setting-attribute .before in
     let at-set-attribute-refusal = at-if2 .before in
     let at-if1 = at-set-attribute-refusal .before in
     let at-passes = at-if1 .before in
     let start = at-passes .before .before .before .before in
     set-attribute-asks (start .args .store .now) (at-if1 .if1 .left) (at-passes .passes .ensures) (start .args .element) (start .args .attribute)
     (start .args .value .now) (at-set-attribute-refusal .set-attribute-refusal .ensures) (at-if2 .if2 .left)
-    (c .before .set-attribute-plan .ensures
-    ∙ ap (λ (x : ℕ). setAttributePlan (start .args .element) (start .args .attribute) x) (at-attribute-serial .attribute-serial .ensures))
+    (at-setting-attribute .setting-attribute .ensures)
 
 same-length : tie.Need-same-length
 same-length c = search needs
@@ -76,9 +70,8 @@ same-length c = search needs
 returns-3 : tie.Need-returns-3
 returns-3 c =
     let at-edit = c .before .before in
-    let at-set-attribute-plan = at-edit .before .before in
-    let at-attribute-serial = at-set-attribute-plan .before in
-    let at-if2 = at-attribute-serial .before in
+    let at-setting-attribute = at-edit .before .before in
+    let at-if2 = at-setting-attribute .before in
     let at-set-attribute-refusal = at-if2 .before in
     let at-if1 = at-set-attribute-refusal .before in
     let at-passes = at-if1 .before in
@@ -89,8 +82,7 @@ returns-3 c =
     (attributeSerial (start .args .element) (start .args .attribute) (storeIn (start .args .store .now))))
     _ (start .args .value .now) (at-if1 .if1 .left) (at-passes .passes .ensures) (at-set-attribute-refusal .set-attribute-refusal .ensures)
     (at-if2 .if2 .left)
-    (at-set-attribute-plan .set-attribute-plan .ensures
-    ∙ ap (λ (x : ℕ). setAttributePlan (start .args .element) (start .args .attribute) x) (at-attribute-serial .attribute-serial .ensures))
+    (at-setting-attribute .setting-attribute .ensures)
     (λ g e. set-attribute-planned (storeIn (start .args .store .now)) g (start .args .element) (start .args .attribute) (start .args .value .now) e)
     (at-edit .edit .ensures)
 
@@ -104,8 +96,7 @@ set-attribute-spec =
     set-attribute-refusal-requires
     refused-requires-2
     returns-2
-    attribute-serial-requires
-    set-attribute-plan-requires
+    setting-attribute-requires
     edit-requires
     same-length
     returns-3)

@@ -2,8 +2,6 @@
 -- of CallLaws). Else what its calls require holds (`set-text-there`, `set-text-asks` of Laws), and the plan does what
 -- the change does (`set-text-planned` of CallsPlanned, `made-planned` of Calls).
 use borrow.Author.Needs.{needs}
-use mathlib.Core.Path.{_∙_, ap}
-use Prim.Native.Nat.{ℕ}
 use lib.ListN.{length}
 use Rattle.rules.specs.Change.{setText}
 use Rattle.store_laws.specs.Stores.{storeIn}
@@ -45,27 +43,24 @@ returns-2 c =
     turned-away (setText (start .args .element) (start .args .text .now)) (start .args .store .now) (length (start .args .out .now)) (start .args .out .now)
     (at-if1 .if1 .left) (at-passes .passes .ensures) (at-set-text-refusal .set-text-refusal .ensures) (c .before .if2 .taken) (c .refused2 .ensures)
 
-text-serial-requires : tie.Need-text-serial-requires
-text-serial-requires c κs =
+setting-text-requires : tie.Need-setting-text-requires
+setting-text-requires c κs =
     let at-if1 = c .before .before in
     let at-passes = at-if1 .before in
     let start = at-passes .before .before .before .before in
     set-text-there (start .args .store .now) (at-if1 .if1 .left) (at-passes .passes .ensures) (start .args .element) (start .args .text .now) (c .before .set-text-refusal .ensures) (c .if2 .left)
 
-setting-plan-requires : tie.Need-setting-plan-requires
-setting-plan-requires c κs = search needs
-
 edit-requires : tie.Need-edit-requires
 edit-requires c κs =
-    let at-text-serial = c .before .before in
-    let at-if2 = at-text-serial .before in
+    let at-setting-text = c .before in
+    let at-if2 = at-setting-text .before in
     let at-set-text-refusal = at-if2 .before in
     let at-if1 = at-set-text-refusal .before in
     let at-passes = at-if1 .before in
     let start = at-passes .before .before .before .before in
     set-text-asks (start .args .store .now) (at-if1 .if1 .left) (at-passes .passes .ensures) (start .args .element) (start .args .text .now)
     (at-set-text-refusal .set-text-refusal .ensures) (at-if2 .if2 .left)
-    (c .before .setting-plan .ensures ∙ ap (λ (x : ℕ). setTextPlan x) (at-text-serial .text-serial .ensures))
+    (at-setting-text .setting-text .ensures)
 
 same-length : tie.Need-same-length
 same-length c = search needs
@@ -73,9 +68,8 @@ same-length c = search needs
 returns-3 : tie.Need-returns-3
 returns-3 c =
     let at-edit = c .before .before in
-    let at-setting-plan = at-edit .before .before in
-    let at-text-serial = at-setting-plan .before in
-    let at-if2 = at-text-serial .before in
+    let at-setting-text = at-edit .before .before in
+    let at-if2 = at-setting-text .before in
     let at-set-text-refusal = at-if2 .before in
     let at-if1 = at-set-text-refusal .before in
     let at-passes = at-if1 .before in
@@ -83,7 +77,7 @@ returns-3 c =
     made-planned (setText (start .args .element) (start .args .text .now)) (start .args .store .now) (length (start .args .out .now)) (start .args .out .now)
     (setTextPlan (textSerial (start .args .element) (storeIn (start .args .store .now)))) _ (start .args .text .now) (at-if1 .if1 .left)
     (at-passes .passes .ensures) (at-set-text-refusal .set-text-refusal .ensures) (at-if2 .if2 .left)
-    (at-setting-plan .setting-plan .ensures ∙ ap (λ (x : ℕ). setTextPlan x) (at-text-serial .text-serial .ensures))
+    (at-setting-text .setting-text .ensures)
     (λ g e. set-text-planned (storeIn (start .args .store .now)) g (start .args .element) (start .args .text .now)) (at-edit .edit .ensures)
 
 pub set-text-spec : {M : Type 1} → statement M
@@ -96,8 +90,7 @@ set-text-spec =
     set-text-refusal-requires
     refused-requires-2
     returns-2
-    text-serial-requires
-    setting-plan-requires
+    setting-text-requires
     edit-requires
     same-length
     returns-3)

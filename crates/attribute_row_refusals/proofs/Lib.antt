@@ -1,0 +1,3 @@
+pub mod AttributeTests
+pub mod AttributesAfter
+pub mod AttributeRefusals

@@ -18,7 +18,7 @@ use Rattle.rules.specs.Layout.{definitionSize, particleSize, FlatDefinition, Fl
 use Rattle.rules.specs.Decode.{nameAt, readDefinition, readParticle, readMany, contentOf, memberOf, readMembers, ofOwner, readForm, flatName}
 use Rattle.rules.specs.WellFormed.{definitionName, Reaches}
 use Rattle.rules.proofs.PreorderLaws.{rising, preorder-build}
-use Rattle.form_check.specs.FormTests.{elementsIn}
+use Rattle.model_check.specs.ModelTests.{elementsIn}
 use Rattle.codec.specs.Part.{partOf}
 use Rattle.codec.proofs.Strings.{part-there}
 use Rattle.layout.proofs.LayoutLaws.{record-first, record-after}

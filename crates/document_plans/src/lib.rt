@@ -71,5 +71,6 @@ pub fn setting_text(store: &[u8], element: u32) -> Plan
     requires { ⌜ (passes (now store) ≡ true) × (noElement element (storeIn (now store)) ≡ false) ⌝ }
     ensures { λ r. ⌜ r ≡ setTextPlan (textSerial element (storeIn (now (store .entry)))) ⌝ }
 {
-    plans::setting_plan(document_rows::text_serial(store, element))
+    let row = document_rows::text_serial(store, element);
+    plans::setting_plan(row)
 }

@@ -16,16 +16,16 @@ use Rattle.rules.specs.Layout.{FlatRow, valueWidth, kindCode, indexOf}
 use Rattle.rules.specs.Decode.{rowCount}
 use Rattle.rules.specs.WellFormed.{lookup, isThere, known}
 use Rattle.rules.specs.Conforming.{nameOf, ElementRows, RowConforms, conforming}
-use Rattle.rules.specs.Lines.{isElementRow, isTextRow, elementWith, childrenOf, serialAt}
+use Rattle.rules.specs.Lines.{isElementRow, elementWith, childrenOf, serialAt}
 use Rattle.rules.specs.Change.{addDocument, addElement, destroyElement, nameAtIndex, after}
-use Rattle.rules.specs.Refusal.{Condition, _if_, first, conditions, pastEnd, rowsOf, noElement, badText, isComplex}
+use Rattle.rules.specs.Refusal.{Condition, _if_, first, conditions, pastEnd, rowsOf, badText, isComplex}
 use Rattle.change_laws.proofs.RowEdits.{rowSerial, keep}
 use Rattle.change_laws.proofs.Conditions.{not-past}
 use Rattle.change_laws.proofs.StandingLaws.{standing-child, standing-every, no-zero, children-are}
 use Rattle.model.specs.Steps.{runs}
 use Rattle.store_check.proofs.IndexLaws.{name-of}
 use Rattle.store_laws.specs.Stores.{storeIn}
-use Rattle.document_rows.specs.Finding.{ElementRowAt, ParentAt, childrenAt, modelAt, rowDefinitionKind, fitsAt, hasPlace, serialIn, word}
+use Rattle.document_rows.specs.Finding.{ParentAt, childrenAt, modelAt, rowDefinitionKind, fitsAt, hasPlace, serialIn, word}
 use Rattle.change_laws.specs.FirstCondition.{Gives}
 use Rattle.store_check.proofs.StoreFacts.{formIn, docsIn, byIndex, Whole}
 use Rattle.document_rows.proofs.ElementFacts.{Element, NoElement, Parent, parent-there, parent-absent, defined, elements-at, serials-at}

@@ -6,13 +6,12 @@ use mathlib.Core.Bool.{Bool, true, false, not}
 use mathlib.Core.Option.{Option, none, some}
 use Rattle.rules.specs.Bytes.{Bytes}
 use Rattle.rules.specs.Store.{Content, empty, pcdata, complex, Definition, Row}
-use Rattle.rules.specs.Layout.{kindCode, indexOf}
-use Rattle.rules.specs.Decode.{definitionCount, rowCount}
+use Rattle.rules.specs.Layout.{kindCode}
+use Rattle.rules.specs.Decode.{definitionCount}
 use Rattle.rules.specs.WellFormed.{isValue, lookup}
 use Rattle.rules.specs.Change.{addDocument, setText}
 use Rattle.rules.specs.Refusal.{conditions, isPcdata, pcdataElement}
-use Rattle.layout.specs.Bodies.{widthOf, WidthIn, Number, definitionsIn, treeRowsIn}
-use Rattle.form_index.specs.Reading.{definitionIn}
+use Rattle.layout.specs.Bodies.{WidthIn, Number}
 use Rattle.store_laws.specs.Stores.{storeIn}
 use Rattle.document_rows.specs.Finding.{rowDefinitionKind}
 use Rattle.change_laws.specs.FirstCondition.{Gives}

@@ -7,7 +7,8 @@ use Rattle.rules.specs.Bytes.{Bytes, ascii}
 use Rattle.rules.specs.Model.{member, distinct}
 use Rattle.rules.specs.Preorder.{Deep}
 use Rattle.rules.specs.Layout.{FlatDefinition, FlatParticle, FlatAttribute, FlatStore}
-use Rattle.form_check.specs.FormTests.{definitionsApart, shaped, elementsIn, modelFits, modelsFit, ownersRise, attributesApart, bodiesFit}
+use Rattle.form_check.specs.FormTests.{definitionsApart, modelsFit, ownersRise, attributesApart, bodiesFit}
+use Rattle.model_check.specs.ModelTests.{shaped, elementsIn, modelFits}
 
 abbrev definition : Bytes → ℕ → ℕ → FlatDefinition
 definition name kind size = record { name = name; kind = kind; particles = size }

@@ -10,20 +10,10 @@ use Rattle.rules.specs.Model.{member, distinct}
 use Rattle.rules.specs.Layout.{definitionSize, particleSize, attributeSize, FlatDefinition, FlatAttribute, FlatStore}
 use Rattle.rules.specs.Decode.{flatName, readDefinition, readParticle, readAttribute, readBodies}
 use Rattle.form_check.specs.FormTests.{definitionsApart, modelsFit, clashes, ownersRise, attributesApart, bodiesFit}
-use Rattle.form_check.specs.Bodies.{definitions, particlesRead, attributes, formOfBodies, apart, sameName}
+use Rattle.model_check.specs.Particles.{particlesRead, apart}
+use Rattle.form_check.specs.Bodies.{definitions, attributes, formOfBodies, sameName}
 use Rattle.form_check.proofs.Reading.{definitions-length}
 use Rattle.codec.proofs.Records.{many-within}
-
--- ---- an entry like this one, further on
-module _ {A : Type 0} (p : A → Bool) {l rest : List A} {y : A} (e : l ≡ y ∷ rest) where
-  pub any-on : p y ≡ true → any p l ≡ true
-  any-on h = rw (e, h)
-
-  pub any-off : p y ≡ false → any p rest ≡ any p l
-  any-off h = rw (e, h)
-
-pub any-end : {A : Type 0} (p : A → Bool) {l : List A} → l ≡ [] → any p l ≡ false
-any-end p e = rw e
 
 -- ---- no two alike
 module _ {A : Type 0} (c : A → A → Bool) {l rest : List A} {x : A} (e : l ≡ x ∷ rest) where

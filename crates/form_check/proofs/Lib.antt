@@ -1,4 +1,4 @@
 pub mod Reading
 pub mod Laws
-pub mod ModelLaws
+pub mod ModelsLaws
 pub mod Examples

@@ -1,42 +1,25 @@
 -- Records of a body, one by one: their bytes where the code reads them, and what is left from one on.
 use mathlib.Core.Path.{_≡_, sym, ap, _∙_}
 use mathlib.Core.List.{[], _∷_}
-use Prim.Native.Nat.{ℕ, zero, suc, _+_, _*_, _≤_, _<_}
+use Prim.Native.Nat.{ℕ, _+_, _*_, _≤_, _<_}
 use native.Mathlib.Omega.{arith}
 use native.Mathlib.Numerals.{add-one}
-use native.Mathlib.Nat.{le-of-suc-le-suc, not-suc-le-zero, mul-zero, mul-suc}
 use lib.ListN.{length, take, drop, drop-of-length-le}
-use lib.Seq.{drop-drop}
 use Rattle.rules.specs.Bytes.{Bytes}
 use Rattle.rules.specs.Layout.{definitionSize, particleSize, attributeSize}
-use Rattle.rules.specs.Decode.{readDefinition, readParticle, readAttribute, readMany}
+use Rattle.rules.specs.Decode.{readDefinition, readParticle, readAttribute}
 use Rattle.codec.specs.Part.{partOf}
 use Rattle.codec.proofs.Strings.{part-there}
 use Rattle.layout.specs.Bodies.{recordAt}
-use Rattle.form_check.specs.Bodies.{definitionRecordAt, particleRecordAt, attributeRecordAt, definitions, particlesRead, attributes}
+use Rattle.model_check.specs.Particles.{particlesRead}
+use Rattle.model_check.proofs.Reading.{many-from}
+use Rattle.form_check.specs.Bodies.{definitionRecordAt, attributeRecordAt, definitions, attributes}
 use Rattle.codec.proofs.Records.{length-many, many-part}
 
--- ---- readMany
-module _ {A : Type 0} (f : Bytes → A) (size : ℕ) where
-  -- the places of the next record
-  next-place : (i : ℕ) (s : Bytes) → drop (size * i) (drop size s) ≡ drop (size * suc i) s
-  next-place i s = let e : size + size * i ≡ size * suc i = omega (arith, mul-suc size i) in drop-drop (size * i) size s ∙ rw e
-
-  pub many-from : (i n : ℕ) (s : Bytes) → i < n → drop i (readMany f size n s) ≡ f (take size (drop (size * i) s)) ∷ drop (suc i) (readMany f size n s)
-  many-from i zero s h = absurd (not-suc-le-zero h)
-  many-from zero (suc n) s h = rw mul-zero
-  many-from (suc i) (suc n) s h =
-      many-from i n (drop size s) (le-of-suc-le-suc h)
-      ∙ ap (λ (t : Bytes). f (take size t) ∷ drop (suc i) (readMany f size n (drop size s))) (next-place i s)
-
--- ---- the three bodies
+-- ---- the bodies
 pub definitions-length : (n : ℕ) (s : Bytes) → length (definitions n s) ≡ n
 unfolding definitions
 definitions-length n s = length-many readDefinition definitionSize n s
-
-pub particles-length : (n : ℕ) (s : Bytes) → length (particlesRead n s) ≡ n
-unfolding particlesRead
-particles-length n s = length-many readParticle particleSize n s
 
 pub attributes-length : (w n : ℕ) (s : Bytes) → length (attributes w n s) ≡ n
 unfolding attributes
@@ -46,19 +29,12 @@ pub definitions-from : (i n : ℕ) (s : Bytes) → i < n → drop i (definitions
 unfolding definitions
 definitions-from i n s h = rw add-one (many-from readDefinition definitionSize i n s h)
 
-pub particles-from : (i n : ℕ) (s : Bytes) → i < n → drop i (particlesRead n s) ≡ particleRecordAt i s ∷ drop (i + 1) (particlesRead n s)
-unfolding particlesRead
-particles-from i n s h = rw add-one (many-from readParticle particleSize i n s h)
-
 pub attributes-from : (w i n : ℕ) (s : Bytes) → i < n → drop i (attributes w n s) ≡ attributeRecordAt w i s ∷ drop (i + 1) (attributes w n s)
 unfolding attributes
 attributes-from w i n s h = rw add-one (many-from readAttribute (attributeSize w) i n s h)
 
 pub definitions-end : (i n : ℕ) (s : Bytes) → n ≤ i → drop i (definitions n s) ≡ []
 definitions-end i n s h = drop-of-length-le (definitions n s) {i = i} (omega (arith, definitions-length n s))
-
-pub particles-end : (i n : ℕ) (s : Bytes) → n ≤ i → drop i (particlesRead n s) ≡ []
-particles-end i n s h = drop-of-length-le (particlesRead n s) {i = i} (omega (arith, particles-length n s))
 
 pub attributes-end : (w i n : ℕ) (s : Bytes) → n ≤ i → drop i (attributes w n s) ≡ []
 attributes-end w i n s h = drop-of-length-le (attributes w n s) {i = i} (omega (arith, attributes-length w n s))

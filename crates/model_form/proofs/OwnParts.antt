@@ -11,7 +11,8 @@ use Rattle.rules.specs.Decode.{readMany, readDefinition, readParticle, definiti
 use Rattle.rules.specs.Passing.{passes}
 use Rattle.codec.proofs.Records.{many-at}
 use Rattle.model.specs.Members.{particlesOf, startOf}
-use Rattle.form_check.specs.Bodies.{definitions, particlesRead}
+use Rattle.form_check.specs.Bodies.{definitions}
+use Rattle.model_check.specs.Particles.{particlesRead}
 use Rattle.form_index.specs.Reading.{particlesBefore, modelPart}
 use Rattle.store_check.specs.Reading.{noFlatDefinition}
 use Rattle.layout.specs.Bodies.{definitionsIn, particlesIn}

@@ -18,7 +18,8 @@ use Rattle.model.specs.Places.{Particles}
 use Rattle.model.specs.Positions.{spread}
 use Rattle.model.proofs.ParticleLaws.{particles-part}
 use Rattle.model.proofs.PositionLaws.{spread-named}
-use Rattle.form_check.specs.Bodies.{definitions, particlesRead, formOfBodies}
+use Rattle.form_check.specs.Bodies.{definitions, formOfBodies}
+use Rattle.model_check.specs.Particles.{particlesRead}
 use Rattle.form_check.proofs.Reading.{definitions-length}
 use Rattle.form_index.specs.Reading.{modelPart}
 use Rattle.store_check.specs.Reading.{FieldsFit, partAt, noFlatDefinition}

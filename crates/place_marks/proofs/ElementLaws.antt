@@ -14,7 +14,7 @@ use Rattle.rules.specs.Place.{Context, here, past, over, into, plug, beforePlac
 use Rattle.rules.specs.Layout.{howMany}
 use Rattle.circle_check.specs.Members.{elementsOf}
 use Rattle.circle_check.proofs.ReadLaws.{elements-append}
-use Rattle.form_check.specs.FormTests.{elementsIn}
+use Rattle.model_check.specs.ModelTests.{elementsIn}
 use Rattle.model.specs.Members.{particlesOf}
 use Rattle.model.specs.Places.{Particles}
 use Rattle.model.specs.Positions.{groupParticle, spread, leading}

@@ -24,7 +24,7 @@ use Rattle.rules.proofs.Correct.{distinct-apart}
 use Rattle.rules.proofs.TestLaws.{member-test}
 use Rattle.rules.proofs.RenamingPlaces.{names-rename, before-rename}
 use Rattle.circle_check.specs.Members.{elementsOf}
-use Rattle.form_check.specs.FormTests.{elementsIn}
+use Rattle.model_check.specs.ModelTests.{elementsIn}
 use Rattle.model.specs.declared.place.Holder.{Holder}
 use Rattle.model.specs.Members.{particlesOf}
 use Rattle.model.specs.Places.{Particles, top, spanOf}

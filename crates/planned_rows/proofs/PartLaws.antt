@@ -10,7 +10,7 @@ use Rattle.rules.specs.Layout.{particleSize, FlatParticle}
 use Rattle.rules.specs.Decode.{readMany, readParticle, particleCount}
 use Rattle.model.specs.Members.{indexMembers, particlesOf, membersFrom}
 use Rattle.model.proofs.MembersLaws.{particles-past}
-use Rattle.form_check.specs.Bodies.{particlesRead}
+use Rattle.model_check.specs.Particles.{particlesRead}
 use Rattle.store_check.proofs.StringChecks.{Headed, laid-in, same-particles}
 use Rattle.lookup.specs.Bodies.{bodiesOf}
 use Rattle.layout.specs.Bodies.{widthOf, particlesIn}

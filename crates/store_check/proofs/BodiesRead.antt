@@ -18,7 +18,8 @@ use Rattle.rules.specs.Conforming.{mustBePresent, allows}
 use Rattle.rules.specs.Passing.{passes}
 use Rattle.model.specs.Members.{indexMembers, particlesOf, membersFrom, allMembers}
 use Rattle.records.specs.Records.{rowFits, eachFits}
-use Rattle.form_check.specs.Bodies.{definitions, particlesRead, attributes, formOfBodies}
+use Rattle.form_check.specs.Bodies.{definitions, attributes, formOfBodies}
+use Rattle.model_check.specs.Particles.{particlesRead}
 use Rattle.form_check.proofs.Reading.{definitions-length, attributes-length}
 use Rattle.layout.specs.Bodies.{recordAt, widthOf, definitionsIn, particlesIn, attributesIn, treeRowsIn}
 use Rattle.form_index.specs.Reading.{definitionIn, attributeIn, modelPart}

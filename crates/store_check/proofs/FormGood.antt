@@ -24,7 +24,8 @@ use Rattle.rules.proofs.TestLaws.{distinct-test}
 use Rattle.rules.proofs.WellFormedLaws.{well-formed, no-circle}
 use Rattle.rules.proofs.PassingLaws.{good-is}
 use Rattle.model.specs.Members.{indexMembers}
-use Rattle.form_check.specs.FormTests.{definitionsApart, modelFits, modelsFit, bodiesFit}
+use Rattle.form_check.specs.FormTests.{definitionsApart, modelsFit, bodiesFit}
+use Rattle.model_check.specs.ModelTests.{modelFits}
 use Rattle.store_check.specs.Reading.{DefinitionFits, FieldsFit, partAt, noFlatDefinition, entryOf, formAt, Agrees}
 use Rattle.store_check.proofs.IndexLaws.{namesOf}
 use Rattle.store_check.proofs.ModelReads.{ModelRead}

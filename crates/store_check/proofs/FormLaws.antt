@@ -24,9 +24,12 @@ use Rattle.codec.proofs.Records.{many-at}
 use Rattle.records.specs.Records.{definitionFits, attributeFits, eachFits}
 use Rattle.records.proofs.RecordLaws.{FittingDefinition, definition-fields, FittingAttribute, attribute-fields, body-fields}
 use Rattle.model.specs.Members.{indexMembers, startOf}
-use Rattle.form_check.specs.FormTests.{elementsIn, shaped, modelFits, modelsFit, bodiesFit}
-use Rattle.form_check.specs.Bodies.{Bodies, definitions, particlesRead, attributes, formOfBodies}
-use Rattle.form_check.proofs.Reading.{definitions-length, particles-length}
+use Rattle.model_check.specs.ModelTests.{elementsIn, shaped, modelFits}
+use Rattle.form_check.specs.FormTests.{modelsFit, bodiesFit}
+use Rattle.form_check.specs.Bodies.{Bodies, definitions, attributes, formOfBodies}
+use Rattle.model_check.specs.Particles.{particlesRead}
+use Rattle.form_check.proofs.Reading.{definitions-length}
+use Rattle.model_check.proofs.Reading.{particles-length}
 use Rattle.circle_check.specs.declared.Heights.{Heights}
 use Rattle.circle_check.specs.Members.{countAt, startAt, membersIn}
 use Rattle.circle_check.specs.Deep.{Ranked}

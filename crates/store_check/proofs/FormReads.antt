@@ -23,7 +23,8 @@ use Rattle.rules.proofs.BooleanLaws.{Every, every-map, none-nil}
 use Rattle.rules.proofs.TestLaws.{distinct-test}
 use Rattle.model.specs.Members.{indexMembers}
 use Rattle.model.proofs.MembersLaws.{members-named}
-use Rattle.form_check.specs.FormTests.{definitionsApart, modelFits, modelsFit, ownersRise, attributesApart, bodiesFit}
+use Rattle.form_check.specs.FormTests.{definitionsApart, modelsFit, ownersRise, attributesApart, bodiesFit}
+use Rattle.model_check.specs.ModelTests.{modelFits}
 use Rattle.store_check.specs.Reading.{DefinitionFits, AttributeFits, FieldsFit, partAt, noFlatDefinition}
 use Rattle.store_check.proofs.IndexLaws.{namesOf}
 use Rattle.store_check.proofs.ModelReads.{Fills, ModelRead, model-read, members-read, kind-back}

@@ -13,7 +13,8 @@ use Rattle.rules.specs.Conforming.{mustBePresent, allows}
 use Rattle.codec.proofs.Strings.{part-there}
 use Rattle.codec.proofs.Records.{many-at}
 use Rattle.model.specs.Members.{indexMembers, particlesOf, membersFrom, allMembers, startOf}
-use Rattle.form_check.specs.Bodies.{definitions, particlesRead, attributes, formOfBodies}
+use Rattle.form_check.specs.Bodies.{definitions, attributes, formOfBodies}
+use Rattle.model_check.specs.Particles.{particlesRead}
 use Rattle.form_check.proofs.Reading.{definitions-length, attributes-length, particles-part}
 use Rattle.form_index.specs.Reading.{definitionIn, attributeIn, particlesBefore, modelPart}
 use Rattle.form_index.specs.Reading as bytes

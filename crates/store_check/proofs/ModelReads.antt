@@ -23,7 +23,7 @@ use Rattle.rules.proofs.PreorderLaws.{preorder-build, rising}
 use Rattle.rules.proofs.RenamingPlaces.{names-rename}
 use Rattle.model.specs.Members.{indexMember, indexMembers}
 use Rattle.model.proofs.MembersLaws.{members-named}
-use Rattle.form_check.specs.FormTests.{particleFits, shaped, elementsIn, modelFits}
+use Rattle.model_check.specs.ModelTests.{particleFits, shaped, elementsIn, modelFits}
 use Rattle.circle_check.proofs.ReadLaws.{elements-append}
 use Rattle.store_check.proofs.IndexLaws.{namesOf, index-name, name-once, known-at, distinct-map}
 

@@ -23,7 +23,8 @@ use Rattle.rules.proofs.Words.{and-both}
 use Rattle.rules.proofs.BooleanLaws.{Every, all-left, all-right}
 use Rattle.rules.proofs.TestLaws.{distinct-test}
 use Rattle.rules.proofs.PreorderLaws.{build-preorder, rising, preorder-rises}
-use Rattle.form_check.specs.FormTests.{particleFits, shaped, elementsIn, modelFits, modelsFit}
+use Rattle.model_check.specs.ModelTests.{particleFits, shaped, elementsIn, modelFits}
+use Rattle.form_check.specs.FormTests.{modelsFit}
 use Rattle.store_check.specs.Reading.{DefinitionFits}
 use Rattle.store_check.proofs.IndexLaws.{known-index, index-once, distinct-map}
 use Rattle.circle_check.proofs.ReadLaws.{elements-append}

@@ -13,7 +13,8 @@ use Rattle.rules.specs.Layout.{FlatDefinition, FlatParticle}
 use Rattle.rules.proofs.Words.{and-split}
 use Rattle.rules.proofs.BooleanLaws.{none-nil}
 use Rattle.model.specs.Members.{startOf}
-use Rattle.form_check.specs.FormTests.{modelFits, modelsFit}
+use Rattle.model_check.specs.ModelTests.{modelFits}
+use Rattle.form_check.specs.FormTests.{modelsFit}
 use Rattle.store_check.specs.Reading.{partAt, noFlatDefinition}
 
 before-none : (ds : List FlatDefinition) → startOf 0 ds ≡ 0

@@ -28,7 +28,8 @@ use Rattle.records.specs.Records as records
 use Rattle.records.proofs.RecordLaws.{small-take, small-drop, FittingDefinition, FittingAttribute, FittingRow, each-fits-cut}
 use Rattle.records.proofs.StringLaws.{FittingHeader, header-fields, string-canonical, FittingFlat, string-fields, store-header-fits, store-bodies-fit}
 use Rattle.form_check.specs.FormTests.{bodiesFit}
-use Rattle.form_check.specs.Bodies.{definitions, particlesRead, attributes, formOfBodies}
+use Rattle.form_check.specs.Bodies.{definitions, attributes, formOfBodies}
+use Rattle.model_check.specs.Particles.{particlesRead}
 use Rattle.form_check.proofs.Laws.{bodies-only}
 use Rattle.serial_check.specs.Serials.{serialOfDeep, serialsOf, fitting}
 use Rattle.form_index.specs.Indices.{IndexForm, Documents}

@@ -2,7 +2,6 @@
 -- store's bodies put in for the one that was read (`version-of` of Version).
 use mathlib.Core.Path.{ap, _∙_}
 use Prim.Native.Nat.{ℕ}
-use native.Mathlib.Omega.{arith}
 use Rattle.plans.specs.AttributeCalls.{addAttributePlan}
 use Rattle.attribute_plans.proofs.Version.{version-of}
 use borrow.Author.Needs.{needs}

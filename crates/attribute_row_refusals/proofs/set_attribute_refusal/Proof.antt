@@ -1,6 +1,6 @@
--- `attribute_row_refusals::set_attribute_refusal` meets its contract by a law of AttributeRefusals for each return: 3 where
--- the bytes are no value (`set-3`), a refusal of `attribute_refusal` (`set-early`), and 15 if and only if the attribute
--- may not have the value (`set-last`).
+-- `attribute_row_refusals::set_attribute_refusal` meets its contract by a law of AttributeRefusals for each return: 3
+-- where the bytes are no value (`set-3`), a refusal of `attribute_refusal` (`set-early`), and 15 if and only if the
+-- attribute may not have the value (`set-last`).
 use mathlib.Core.Path.{_∙_}
 use native.Mathlib.Omega.{arith}
 use Rattle.store_check.proofs.StoreFacts.{Whole, whole}

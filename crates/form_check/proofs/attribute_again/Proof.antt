@@ -9,7 +9,7 @@ use Rattle.rules.specs.Bytes.{any}
 use Rattle.form_check.specs.FormTests.{clashes}
 use Rattle.form_check.specs.Bodies.{attributeRecordAt, attributes}
 use Rattle.form_check.proofs.Reading.{attributes-from, attributes-end}
-use Rattle.form_check.proofs.Laws.{any-on, any-off, any-end}
+use Rattle.model_check.proofs.Further.{any-on, any-off, any-end}
 use Rattle.form_check.proofs.attribute_again.Statement.{statement}
 use Rattle.form_check.proofs.attribute_again.Tie as tie
 

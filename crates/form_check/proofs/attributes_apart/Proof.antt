@@ -6,7 +6,8 @@ use native.Mathlib.Omega.{arith}
 use borrow.Author.Needs.{needs}
 use lib.ListN.{drop}
 use Rattle.form_check.specs.FormTests.{clashes}
-use Rattle.form_check.specs.Bodies.{attributes, apart}
+use Rattle.form_check.specs.Bodies.{attributes}
+use Rattle.model_check.specs.Particles.{apart}
 use Rattle.form_check.proofs.Reading.{attributes-from, attributes-end}
 use Rattle.form_check.proofs.Laws.{apart-on, apart-off, apart-end, attributes-apart}
 use Rattle.form_check.proofs.attributes_apart.Statement.{statement}

@@ -5,7 +5,8 @@ use Prim.Native.Nat.{_-_}
 use native.Mathlib.Omega.{arith}
 use borrow.Author.Needs.{needs}
 use lib.ListN.{drop}
-use Rattle.form_check.specs.Bodies.{definitions, sameName, apart}
+use Rattle.form_check.specs.Bodies.{definitions, sameName}
+use Rattle.model_check.specs.Particles.{apart}
 use Rattle.form_check.proofs.Reading.{definitions-from, definitions-end}
 use Rattle.form_check.proofs.Laws.{apart-on, apart-off, apart-end, definitions-apart}
 use Rattle.form_check.proofs.definitions_apart.Statement.{statement}

@@ -6,9 +6,11 @@ use native.Mathlib.Omega.{arith}
 use borrow.Author.Needs.{needs}
 use lib.ListN.{drop}
 use Rattle.form_check.specs.FormTests.{modelsFit}
-use Rattle.form_check.specs.Bodies.{definitions, particlesRead}
-use Rattle.form_check.proofs.Reading.{definitions-from, definitions-end, particles-length}
-use Rattle.form_check.proofs.ModelLaws.{part-fits, models-short, models-off, models-on, models-end}
+use Rattle.form_check.specs.Bodies.{definitions}
+use Rattle.model_check.specs.Particles.{particlesRead}
+use Rattle.form_check.proofs.Reading.{definitions-from, definitions-end}
+use Rattle.model_check.proofs.Reading.{particles-length}
+use Rattle.form_check.proofs.ModelsLaws.{part-fits, models-short, models-off, models-on, models-end}
 use Rattle.form_check.proofs.models_fit.Statement.{statement}
 use Rattle.form_check.proofs.models_fit.Tie as tie
 

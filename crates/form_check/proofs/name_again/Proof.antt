@@ -8,7 +8,7 @@ use lib.ListN.{drop}
 use Rattle.rules.specs.Bytes.{Bytes, same, any}
 use Rattle.form_check.specs.Bodies.{definitionRecordAt, definitions, sameName}
 use Rattle.form_check.proofs.Reading.{definitions-from, definitions-end, definition-name}
-use Rattle.form_check.proofs.Laws.{any-on, any-off, any-end}
+use Rattle.model_check.proofs.Further.{any-on, any-off, any-end}
 use Rattle.form_check.proofs.name_again.Statement.{statement}
 use Rattle.form_check.proofs.name_again.Tie as tie
 

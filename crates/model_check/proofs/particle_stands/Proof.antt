@@ -1,12 +1,12 @@
--- `form_check::particle_stands` meets its contract. Depth, members and elements, each test at its return.
+-- `model_check::particle_stands` meets its contract. Depth, members and elements, each test at its return.
 use mathlib.Core.Path.{sym}
 use Prim.Native.Nat.{_+_}
 use lib.ListN.{drop}
-use Rattle.form_check.specs.Bodies.{particleRecordAt, particlesRead}
-use Rattle.form_check.proofs.ModelLaws.{stands-low, stands-far, stands-by}
+use Rattle.model_check.specs.Particles.{particleRecordAt, particlesRead}
+use Rattle.model_check.proofs.ModelLaws.{stands-low, stands-far, stands-by}
 use borrow.Author.Needs.{needs}
-use Rattle.form_check.proofs.particle_stands.Statement.{statement}
-use Rattle.form_check.proofs.particle_stands.Tie as tie
+use Rattle.model_check.proofs.particle_stands.Statement.{statement}
+use Rattle.model_check.proofs.particle_stands.Tie as tie
 
 particle-depth-at-requires : tie.Need-particle-depth-at-requires
 particle-depth-at-requires c κs = search needs

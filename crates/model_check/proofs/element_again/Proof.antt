@@ -1,4 +1,4 @@
--- `form_check::element_again` meets its contract. The loop's invariant: an element after j is that of particle i if and
+-- `model_check::element_again` meets its contract. The loop's invariant: an element after j is that of particle i if and
 -- only if one after i is. The measure is what is left of the particles.
 use mathlib.Core.Path.{_≡_, refl, sym, _∙_}
 use Prim.Native.Nat.{_+_, _-_, _<_}
@@ -6,11 +6,11 @@ use native.Mathlib.Omega.{arith}
 use borrow.Author.Needs.{needs}
 use lib.ListN.{drop}
 use Rattle.rules.specs.Bytes.{any}
-use Rattle.form_check.specs.Bodies.{particleRecordAt, particlesRead, sameElement}
-use Rattle.form_check.proofs.Reading.{particles-from, particles-end}
-use Rattle.form_check.proofs.Laws.{any-on, any-off, any-end}
-use Rattle.form_check.proofs.element_again.Statement.{statement}
-use Rattle.form_check.proofs.element_again.Tie as tie
+use Rattle.model_check.specs.Particles.{particleRecordAt, particlesRead, sameElement}
+use Rattle.model_check.proofs.Reading.{particles-from, particles-end}
+use Rattle.model_check.proofs.Further.{any-on, any-off, any-end}
+use Rattle.model_check.proofs.element_again.Statement.{statement}
+use Rattle.model_check.proofs.element_again.Tie as tie
 
 abbrev Inv-loop : tie.InvT-loop
 Inv-loop m parts i j₀ j =

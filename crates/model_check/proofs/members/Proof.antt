@@ -1,16 +1,16 @@
--- `form_check::members` meets its contract. The loop's invariant: `count` and the members from j on make up the members
+-- `model_check::members` meets its contract. The loop's invariant: `count` and the members from j on make up the members
 -- from `from` on. The measure is what is left of the particles.
-use Rattle.form_check.specs.Bodies.{particleRecordAt, particlesRead, countBeside}
+use Rattle.model_check.specs.Particles.{particleRecordAt, particlesRead, countBeside}
 use mathlib.Core.Path.{_≡_}
 use mathlib.Core.Logic.{⊎-elim}
 use Prim.Native.Nat.{_+_, _-_, _≤_, _<_}
 use native.Mathlib.Omega.{arith}
 use borrow.Author.Needs.{needs}
 use lib.ListN.{drop}
-use Rattle.form_check.proofs.Reading.{particles-from, particles-end}
-use Rattle.form_check.proofs.ModelLaws.{members-less, members-same, members-deeper, members-end}
-use Rattle.form_check.proofs.members.Statement.{statement}
-use Rattle.form_check.proofs.members.Tie as tie
+use Rattle.model_check.proofs.Reading.{particles-from, particles-end}
+use Rattle.model_check.proofs.ModelLaws.{members-less, members-same, members-deeper, members-end}
+use Rattle.model_check.proofs.members.Statement.{statement}
+use Rattle.model_check.proofs.members.Tie as tie
 
 abbrev Inv-loop : tie.InvT-loop
 Inv-loop m parts from k count₀ j₀ count j = (count ≤ j) × (count + countBeside k (drop j (particlesRead m parts)) ≡ countBeside k (drop from (particlesRead m parts)))

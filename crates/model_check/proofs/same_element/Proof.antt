@@ -1,11 +1,11 @@
--- `form_check::same_element` meets its contract. Sorts and indices, compared.
+-- `model_check::same_element` meets its contract. Sorts and indices, compared.
 use mathlib.Core.Path.{ap, ap₂}
 use mathlib.Core.Bool.{Bool, _&&_}
 use Prim.Native.Nat.{ℕ}
 use lib.Dec.{eqb}
 use borrow.Author.Needs.{needs}
-use Rattle.form_check.proofs.same_element.Statement.{statement}
-use Rattle.form_check.proofs.same_element.Tie as tie
+use Rattle.model_check.proofs.same_element.Statement.{statement}
+use Rattle.model_check.proofs.same_element.Tie as tie
 
 particle-sort-at-requires : tie.Need-particle-sort-at-requires
 particle-sort-at-requires c κs = search needs

@@ -1,15 +1,15 @@
--- `form_check::model_fits` meets its contract. The loop's invariant: the walk from particle i on, with depth d allowed,
+-- `model_check::model_fits` meets its contract. The loop's invariant: the walk from particle i on, with depth d allowed,
 -- decides the model. The measure is what is left of the particles.
-use Rattle.form_check.specs.Bodies.{particleRecordAt, particlesRead, walks}
-use Rattle.form_check.proofs.ModelLaws.{stands-depth, walks-on, walks-off, walks-end, walks-model}
+use Rattle.model_check.specs.Particles.{particleRecordAt, particlesRead, walks}
+use Rattle.model_check.proofs.ModelLaws.{stands-depth, walks-on, walks-off, walks-end, walks-model}
 use mathlib.Core.Path.{_≡_, refl, sym, _∙_}
 use Prim.Native.Nat.{_+_, _-_}
 use native.Mathlib.Omega.{arith}
 use borrow.Author.Needs.{needs}
 use lib.ListN.{drop}
-use Rattle.form_check.proofs.Reading.{particles-from, particles-end}
-use Rattle.form_check.proofs.model_fits.Statement.{statement}
-use Rattle.form_check.proofs.model_fits.Tie as tie
+use Rattle.model_check.proofs.Reading.{particles-from, particles-end}
+use Rattle.model_check.proofs.model_fits.Statement.{statement}
+use Rattle.model_check.proofs.model_fits.Tie as tie
 
 abbrev Inv-loop : tie.InvT-loop
 Inv-loop n m parts d₀ i₀ d i = walks n d (drop i (particlesRead m parts)) ≡ walks n 0 (particlesRead m parts)

@@ -1,9 +1,9 @@
--- `form_check::count_fits` meets its contract. The fields of a particle and the number of its members, by its sort.
-use Rattle.form_check.specs.Bodies.{particleRecordAt}
-use Rattle.form_check.proofs.ModelLaws.{count-element, count-group}
+-- `model_check::count_fits` meets its contract. The fields of a particle and the number of its members, by its sort.
+use Rattle.model_check.specs.Particles.{particleRecordAt}
+use Rattle.model_check.proofs.ModelLaws.{count-element, count-group}
 use borrow.Author.Needs.{needs}
-use Rattle.form_check.proofs.count_fits.Statement.{statement}
-use Rattle.form_check.proofs.count_fits.Tie as tie
+use Rattle.model_check.proofs.count_fits.Statement.{statement}
+use Rattle.model_check.proofs.count_fits.Tie as tie
 
 particle-sort-at-requires : tie.Need-particle-sort-at-requires
 particle-sort-at-requires c κs = search needs

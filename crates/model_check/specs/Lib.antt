@@ -1,0 +1,2 @@
+pub mod ModelTests
+pub mod Particles

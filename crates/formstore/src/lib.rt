@@ -9,7 +9,9 @@ ghost use Rattle.rules.specs.Change.{createDefinition, destroyDefinition, inser
 ghost use Rattle.rules.specs.Change.{changeGroupQuantifier, addAttribute, destroyAttribute, addDocument, addElement, destroyElement, setAttribute};
 ghost use Rattle.rules.specs.Change.{destroyAttributeRow, setText};
 ghost use Rattle.rules.specs.Outcome.{Promise, Answers};
+ghost use Rattle.rules.specs.Layout.{baseVersion};
 ghost use Rattle.rules.specs.Print.{printOutcome};
+ghost use Rattle.reading_rules.specs.Reading.{ReadPromise};
 ghost use lib.ListN.{length};
 ghost use Rattle.lookup.specs.Finding.{Looks, Hands};
 ghost use Rattle.look_up_calls.specs.Calls.{checkAnswer};
@@ -55,6 +57,20 @@ pub extern "C" fn formstore_print(store: &[u8], out: &mut [u8]) -> Answer
     ensures { λ r. ⌜ Answers (printOutcome (now (store .entry)) (length (now (out .entry)))) (now (out .entry)) (r .number) (r .length) (now (out .exit)) ⌝ }
 {
     print_call::print(store, out)
+}
+
+/// Reads a printed text into a store: that of all stores that print it which has its serials from 1 on.
+pub fn read_text(text: &[u8], out: &mut [u8]) -> Answer
+    ensures { λ r. ⌜ ReadPromise baseVersion (now (text .entry)) (now (out .entry)) (r .number) (r .length) (now (out .exit)) ⌝ }
+{
+    read_call::read_text(text, out)
+}
+
+#[no_mangle]
+pub extern "C" fn formstore_read_text(text: &[u8], out: &mut [u8]) -> Answer
+    ensures { λ r. ⌜ ReadPromise baseVersion (now (text .entry)) (now (out .entry)) (r .number) (r .length) (now (out .exit)) ⌝ }
+{
+    read_call::read_text(text, out)
 }
 
 // ---- the changes, by their numbers

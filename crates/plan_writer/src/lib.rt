@@ -22,8 +22,8 @@ ghost use Rattle.store_laws.specs.Forms.{formRead, Forms};
 ghost use Rattle.store_limits.specs.Limits.{limitOf};
 ghost use Rattle.plan_writer.specs.Heads.{Heads};
 
-// Header and form of a store that gets another form.
-fn put_form(
+/// Header and form of a store that gets another form.
+pub fn put_form(
     w: usize,
     store: &[u8],
     form: &[u8],

@@ -4,12 +4,14 @@ use native.Mathlib.Omega.{arith}
 use mathlib.Core.Path.{_≡_, refl, ap, _∙_, sym, subst}
 use mathlib.Core.Logic.{_↔_}
 use mathlib.Core.Bool.{Bool, true, false, not, false≢true}
+use mathlib.Core.List.{List·Memᴰ·not-nil}
 use lib.ListN.{length, getD}
 use mir.Syntax.{w8}
 use mir.Val.{Fits}
 use borrow.Author.Tests.{not-true, not-false}
 use Rattle.rules.specs.Bytes.{Bytes}
-use Rattle.rules.specs.Model.{Distinct, names}
+use Rattle.rules.specs.Model.{Distinct, distinct, names}
+use Rattle.rules.specs.Store.{bare}
 use Rattle.rules.specs.Layout.{definitionSize, attributeSize, rowSize}
 use Rattle.rules.specs.Decode.{numberAt, readRow, readMany, definitionCount, particleCount, attributeCount, rowCount}
 use Rattle.rules.specs.Passing.{passes}
@@ -25,7 +27,7 @@ use Rattle.circle_check.specs.declared.Heights.{Heights}
 use Rattle.circle_check.specs.Members.{membersIn}
 use Rattle.circle_check.specs.Deep.{Ranked}
 use Rattle.serial_check.specs.Serials.{serialsOf, fitting}
-use Rattle.form_index.specs.Indices.{Documents}
+use Rattle.form_index.specs.Indices.{Documents, Everywhere}
 use Rattle.form_index.specs.Reading.{indexForm}
 use Rattle.store_check.specs.Check.{FormPasses, FormIn, RowsPass, RowsIn, SerialsIn}
 use Rattle.store_check.proofs.FormLaws.{Laid, circle-fit}
@@ -193,3 +195,19 @@ module _ {bs : Bytes} (h : Headed bs) where
   pub passed : {a b r : Bool} → not a ≡ false → (a ≡ true) ↔ FormIn bs → not b ≡ false → (b ≡ true) ↔ RowsIn bs → (r ≡ true) ↔ SerialsIn bs → r ≡ passes bs
   passed {a} {b} {r} s x t y z =
       same-truth r (passes bs) (λ e. all-in .1 (x .0 (not-false a s), y .0 (not-false b t) .passes, z .0 e)) (λ e. z .1 (all-in .0 e .2))
+
+  -- ---- without rows the form decides
+  none-fit : rowCount bs ≡ 0 → RowsPass (widthOf bs)
+      (indexForm (numberAt versionAt 4 bs) (widthOf bs) (definitionCount bs) (definitionsIn bs) (particlesIn bs) (attributesIn bs) (attributeCount bs)) (rowCount bs)
+      (treeRowsIn bs)
+  unfolding eachFits
+  none-fit e =
+      rw e
+      (record { fields = refl; documents = record { docs = bare; rows = refl; roots = λ r m. absurd (List·Memᴰ·not-nil m); everywhere = unfold Everywhere in tt } })
+
+  none-serials : rowCount bs ≡ 0 → SerialsIn bs
+  unfolding fitting serialsOf distinct
+  none-serials e = record { fits = rw e refl }
+
+  pub bare-passed : rowCount bs ≡ 0 → {a : Bool} → (a ≡ true) ↔ FormIn bs → a ≡ passes bs
+  bare-passed e {a} x = same-truth a (passes bs) (λ h. all-in .1 (x .0 h, none-fit e, none-serials e)) (λ h. x .1 (all-in .0 h .0))

@@ -3,6 +3,7 @@ use layout::Shape;
 ghost use mathlib.Core.Path.{_≡_};
 ghost use mathlib.Core.Logic.{_↔_};
 ghost use mathlib.Core.Bool.{true};
+ghost use Rattle.rules.specs.Decode.{rowCount};
 ghost use Rattle.rules.specs.Passing.{passes};
 ghost use Rattle.layout.specs.Bodies.{Width, widthOf, ShapeOf};
 ghost use Rattle.records.specs.Records.{headerFits};
@@ -106,4 +107,16 @@ pub fn passes(store: &[u8]) -> bool
         return false;
     }
     serials_pass(store, s)
+}
+
+/// The same of a byte string without rows, in the stack that its form needs: the table of the row check is not made.
+pub fn passes_bare(store: &[u8]) -> bool
+    requires { ⌜ rowCount (now store) ≡ 0 ⌝ }
+    ensures { λ r. ⌜ r ≡ passes (now (store .entry)) ⌝ }
+{
+    let s = layout::shape_of(store);
+    if !header_check::header_fits(s.width, store) {
+        return false;
+    }
+    form_passes(store, s)
 }

@@ -1,5 +1,5 @@
--- `attribute_plans::destroying_plan` meets its contract: the plan is that of `destroy_attribute_plan`, with `ownerAt` put
--- in for what `owner_of` gave.
+-- `attribute_plans::destroying_plan` meets its contract: the plan is that of `destroy_attribute_plan`, with `ownerAt`
+-- put in for what `owner_of` gave.
 use mathlib.Core.Path.{ap, _∙_}
 use Prim.Native.Nat.{ℕ}
 use Rattle.plans.specs.AttributeCalls.{destroyAttributePlan}

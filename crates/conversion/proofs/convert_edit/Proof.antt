@@ -1,5 +1,5 @@
--- `conversion::convert_edit` meets its contract: the edit of the code is read as `convert` of the kind that `group_kind`
--- gives, and of the count.
+-- `conversion::convert_edit` meets its contract: the edit of the code is read as `convert` of the kind that
+-- `group_kind` gives, and of the count.
 use mathlib.Core.Path.{ap}
 use Rattle.rules.specs.declared.GroupKind.{GroupKind}
 use Rattle.rules.specs.Edit.{convert}

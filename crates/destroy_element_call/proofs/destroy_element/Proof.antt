@@ -1,6 +1,6 @@
--- `destroy_element_call::destroy_element` meets its contract: the returns are for a bad store (`bad` of CallLaws), a condition
--- (`turned-away`) and the answer of `edit` (`made-planned` of Calls, `destroy-element-planned` of CallsPlanned); what
--- `edit` requires is `takes-asks` of Calls.
+-- `destroy_element_call::destroy_element` meets its contract: the returns are for a bad store (`bad` of CallLaws), a
+-- condition (`turned-away`) and the answer of `edit` (`made-planned` of Calls, `destroy-element-planned` of
+-- CallsPlanned); what `edit` requires is `takes-asks` of Calls.
 use borrow.Author.Needs.{needs}
 use mathlib.Core.List.{[]}
 use lib.ListN.{length}

@@ -1,4 +1,5 @@
--- `document_plans::destroying_attribute_row` meets its contract: the plan is that of `taking_plan`, which is `destroyAttributeRowPlan`.
+-- `document_plans::destroying_attribute_row` meets its contract: the plan is that of `taking_plan`, which is
+-- `destroyAttributeRowPlan`.
 use borrow.Author.Needs.{needs}
 use Rattle.document_plans.proofs.destroying_attribute_row.Statement.{statement}
 use Rattle.document_plans.proofs.destroying_attribute_row.Tie as tie

@@ -1,4 +1,5 @@
--- `document_plans::destroying_element` meets its contract: the plan is that of `taking_plan`, which is `destroyElementPlan`.
+-- `document_plans::destroying_element` meets its contract: the plan is that of `taking_plan`, which is
+-- `destroyElementPlan`.
 use borrow.Author.Needs.{needs}
 use Rattle.document_plans.proofs.destroying_element.Statement.{statement}
 use Rattle.document_plans.proofs.destroying_element.Tie as tie

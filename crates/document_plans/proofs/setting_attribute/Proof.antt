@@ -1,5 +1,5 @@
--- `document_plans::setting_attribute` meets its contract: the plan is that of `set_attribute_plan`, with `attributeSerial` put in
--- for what `attribute_serial` gave.
+-- `document_plans::setting_attribute` meets its contract: the plan is that of `set_attribute_plan`, with
+-- `attributeSerial` put in for what `attribute_serial` gave.
 use mathlib.Core.Path.{ap, _∙_}
 use Prim.Native.Nat.{ℕ}
 use Rattle.plans.specs.CallPlans.{setAttributePlan}

@@ -1,5 +1,5 @@
--- `model_check::element_again` meets its contract. The loop's invariant: an element after j is that of particle i if and
--- only if one after i is. The measure is what is left of the particles.
+-- `model_check::element_again` meets its contract. The loop's invariant: an element after j is that of particle i if
+-- and only if one after i is. The measure is what is left of the particles.
 use mathlib.Core.Path.{_≡_, refl, sym, _∙_}
 use Prim.Native.Nat.{_+_, _-_, _<_}
 use native.Mathlib.Omega.{arith}

@@ -1,5 +1,5 @@
--- `model_check::members` meets its contract. The loop's invariant: `count` and the members from j on make up the members
--- from `from` on. The measure is what is left of the particles.
+-- `model_check::members` meets its contract. The loop's invariant: `count` and the members from j on make up the
+-- members from `from` on. The measure is what is left of the particles.
 use Rattle.model_check.specs.Particles.{particleRecordAt, particlesRead, countBeside}
 use mathlib.Core.Path.{_≡_}
 use mathlib.Core.Logic.{⊎-elim}

@@ -1,5 +1,5 @@
--- `model_check::model_fits` meets its contract. The loop's invariant: the walk from particle i on, with depth d allowed,
--- decides the model. The measure is what is left of the particles.
+-- `model_check::model_fits` meets its contract. The loop's invariant: the walk from particle i on, with depth d
+-- allowed, decides the model. The measure is what is left of the particles.
 use Rattle.model_check.specs.Particles.{particleRecordAt, particlesRead, walks}
 use Rattle.model_check.proofs.ModelLaws.{stands-depth, walks-on, walks-off, walks-end, walks-model}
 use mathlib.Core.Path.{_≡_, refl, sym, _∙_}

@@ -1,4 +1,5 @@
--- `records::given_name` meets its contract: what `stored_name` and `is_reserved` answer are the two tests of `givenName`.
+-- `records::given_name` meets its contract: what `stored_name` and `is_reserved` answer are the two tests of
+-- `givenName`.
 use mathlib.Core.Path.{ap₂}
 use mathlib.Core.Bool.{Bool, _&&_, not}
 use borrow.Author.Needs.{needs}

@@ -1,0 +1,1 @@
+//! Laws on the declarations of a printed text, as proofs only: see proofs/Declaring.antt.

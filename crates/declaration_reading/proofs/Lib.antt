@@ -1,0 +1,4 @@
+pub mod LineLaws
+pub mod CountLaws
+pub mod BodyLaws
+pub mod FormLaws

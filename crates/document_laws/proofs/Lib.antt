@@ -1,0 +1,9 @@
+pub mod RowsTextLaws
+pub mod ForestText
+pub mod TokenText
+pub mod Soundness
+pub mod Steps
+pub mod Places
+pub mod Kids
+pub mod ForestReading
+pub mod Completeness

@@ -1,0 +1,2 @@
+pub mod RowsText
+pub mod Declares

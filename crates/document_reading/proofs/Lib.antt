@@ -1,0 +1,5 @@
+pub mod RowLaws
+pub mod StackLaws
+pub mod AfterLaws
+pub mod StepLaws
+pub mod LoopLaws

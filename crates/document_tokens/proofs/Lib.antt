@@ -1,0 +1,4 @@
+pub mod FormLaws
+pub mod TokenLaws
+pub mod TellLaws
+pub mod ChoiceLaws

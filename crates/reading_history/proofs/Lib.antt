@@ -1,0 +1,3 @@
+pub mod StartLaws
+pub mod BoxLaws
+pub mod RoundsExample

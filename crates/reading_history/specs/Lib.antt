@@ -1,0 +1,2 @@
+pub mod ReadStart
+pub mod ReadBox

@@ -1,0 +1,11 @@
+pub mod Pieces
+pub mod SameText
+pub mod Models
+pub mod Declarations
+pub mod Documents
+pub mod Shapes
+pub mod Parsing
+pub mod CanonicalForm
+pub mod CanonicalGood
+pub mod Theorem
+pub mod Examples

@@ -1,0 +1,5 @@
+pub mod Joined
+pub mod RowsMade
+pub mod RowsStand
+pub mod DeclaredFits
+pub mod Outcome

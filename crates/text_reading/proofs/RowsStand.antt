@@ -1,0 +1,188 @@
+-- The rows that a text shows stand just where the store of the form and the rows passes: the verdict of the row check
+-- is read from the rows' bytes (`documents-judged` of `row_check`), the serials are counted, and the rest is `Joined`.
+use Prim.Native.Nat.{ℕ, zero, suc, _+_, _≤_, _<_}
+use native.Mathlib.Omega.{arith}
+use mathlib.Core.Path.{_≡_, refl, sym, ap, _∙_, subst}
+use mathlib.Core.Logic.{_↔_}
+use mathlib.Core.Bool.{Bool, true, false, _&&_, _||_, not}
+use mathlib.Core.List.{List, [], _∷_, _++_, map, append-nil, List·Memᴰ, Memᴰ·map}
+use lib.Dec.{eqb, leb, ltb, leb→le}
+use lib.ListN.{length, take, drop}
+use lib.Seq.{take-at, drop-at}
+use borrow.Author.Tests.{le-leb, lt-ltb}
+use Rattle.rules.specs.Bytes.{Bytes, numbers, all, to-T, eqb-eq, eqb-of}
+use Rattle.rules.specs.Model.{Distinct, names, distinct}
+use Rattle.rules.specs.Preorder.{Deep}
+use Rattle.rules.specs.Layout.{rowSize, rowBytes, each, field, FlatRow, FlatStore, flat}
+use Rattle.rules.specs.Decode.{versionIn, readRow, readMany, definitionCount, unflat}
+use Rattle.rules.specs.WellFormed.{isValue, highestNumber}
+use Rattle.rules.specs.Passing.{good, passes}
+use Rattle.rules.proofs.Words.{and-both, and-split}
+use Rattle.rules.proofs.BooleanLaws.{Every, every-in, every-at, all-of}
+use Rattle.rules.proofs.TestLaws.{distinct-test}
+use Rattle.rules.proofs.LayoutLaws.{GoodFlatRow, length-row, read-row, read-each, unle-le, take-field}
+use Rattle.history.proofs.NumberTests.{range, times}
+use Rattle.history.proofs.Numbering.{Spent, spent-distinct, spent-below, spent-more}
+use Rattle.records.specs.Records.{rowFits, eachFits, valueFits}
+use Rattle.records.proofs.RecordLaws.{FittingRow, row-fits}
+use Rattle.form_index.specs.Indices.{Documents}
+use Rattle.layout.specs.Bodies.{widthOf}
+use Rattle.layout.specs.Fields.{rowValueAt}
+use Rattle.next_row.specs.Judge.{judge, groundLevel}
+use Rattle.row_step.specs.Machine.{machine}
+use Rattle.row_step.specs.Steps.{noLevels}
+use Rattle.row_check.specs.Verdict.{rowsRead, fieldsFit, verdict}
+use Rattle.row_check.proofs.MachineLaws.{Within}
+use Rattle.row_check.proofs.JudgeLaws.{documents-judged}
+use Rattle.store_check.specs.Reading.{RowFits, serialsOfRows, serialsFit}
+use Rattle.store_check.proofs.StringChecks.{Headed, laid-in, passes-in}
+use Rattle.store_check.proofs.IndexReads.{index-agrees, index-once}
+use Rattle.store_check.proofs.StoreFacts.{headed-of}
+use Rattle.text_reading.specs.Stages.{formByIndex, rowsStand}
+use Rattle.text_reading.proofs.Joined.{RowsJoin, joined, joined-good, good-joined}
+use Rattle.text_reading.proofs.RowsMade.{RowBounded}
+
+-- ---- serials from 1 on
+none-spent : Spent 1 []
+unfolding times
+none-spent = record { least = omega arith; once = λ k. omega arith; zero = refl; above = λ k h. refl }
+
+counted-spent : (n : ℕ) → Spent (1 + n) (range 1 n)
+unfolding times
+counted-spent n = spent-more n none-spent (λ k. omega arith)
+
+pub counted-fit : (n : ℕ) → n ≤ 4096 → serialsFit (1 + n) (range 1 n) ≡ true
+unfolding serialsFit
+counted-fit n few =
+    let s : Spent (1 + n) (range 1 n) = counted-spent n in
+    and-both (distinct-test numbers (range 1 n) .1 (spent-distinct s))
+    (and-both (all-of (λ k. leb 1 k && ltb k (1 + n)) (range 1 n) (λ k m. let (a, b) = spent-below s k m in and-both (le-leb 1 k a) (lt-ltb k (1 + n) b)))
+    (and-both (le-leb 1 (1 + n) (omega arith)) (le-leb (1 + n) highestNumber (omega arith))))
+
+-- ---- rows and their bytes
+module _ (w : ℕ) where
+  -- a row whose fields fit its bytes
+  row-made : (x : Deep FlatRow) → RowBounded w x → x .row .serial < 4294967296 → GoodFlatRow w x
+  row-made x m s = record { index = m .index; serial = s; value = m .value }
+
+  rows-back : (xs : List (Deep FlatRow)) → Every (GoodFlatRow w) xs → rowsRead w (length xs) (each (rowBytes w) xs) ≡ xs
+  rows-back xs g =
+      ap (λ (z : Bytes). readMany readRow (rowSize w) (length xs) z) (sym (append-nil (each (rowBytes w) xs)))
+      ∙ read-each readRow (rowBytes w) (rowSize w) (GoodFlatRow w) (length-row w) (read-row w) xs [] g
+
+  -- the test of a row's bytes tells of the row
+  unless : (a k : ℕ) (b : Bool) → (not (eqb a k) || b) ≡ true → eqb a k ≡ true → b ≡ true
+  unless a k b h e = sym (ap (λ (t : Bool). not t || b) e) ∙ h
+
+  fits-told : (x : Deep FlatRow) → GoodFlatRow w x → rowFits w (rowBytes w x) ≡ true → RowFits w (x .row)
+  unfolding rowFits valueFits
+  fits-told x g e =
+      let bs : Bytes = rowBytes w x in
+      let v : Bytes = x .row .value in
+      let (s, e₁) = and-split (leb 1 (x .row .sort) && leb (x .row .sort) 3) _ e in
+      let (s₀, s₁) = and-split (leb 1 (x .row .sort)) (leb (x .row .sort) 3) s in
+      let (value, e₂) = and-split (valueFits w bs rowValueAt (length v)) _ e₁ in
+      let (v₀, v₁) = and-split (isValue w (take (length v) (field w v ++ (0 ∷ 0 ∷ [])))) _ value in
+      let (element, e₃) = and-split (not (eqb (x .row .sort) 1) || eqb (length v) 0) _ e₂ in
+      let (text, e₄) = and-split (not (eqb (x .row .sort) 3) || eqb (readRow bs .row .index) 0) _ e₃ in
+      record {
+        plain = record {
+          low = leb→le 1 _ (to-T s₀);
+          high = leb→le _ 3 (to-T s₁);
+          text = λ q. sym (unle-le 2 (x .row .index) (g .index)) ∙ eqb-eq _ 0 (unless (x .row .sort) 3 _ text (eqb-of _ 3 q));
+        };
+        value = subst (λ (z : Bytes). isValue w z ≡ true) (take-field w v (0 ∷ 0 ∷ []) (g .value)) v₀;
+        element = λ q. empty-of v (eqb-eq (length v) 0 (unless (x .row .sort) 1 _ element (eqb-of _ 1 q)));
+      }
+    where
+      empty-of : (v : Bytes) → length v ≡ 0 → v ≡ []
+      empty-of [] e = refl
+      empty-of (x ∷ v) e = absurd (omega arith)
+
+  -- of all rows, one after the other
+  each-told : (xs : List (Deep FlatRow)) → Every (GoodFlatRow w) xs → eachFits (rowFits w) (rowSize w) (length xs) (each (rowBytes w) xs) ≡ true → Every (λ x. RowFits w (x .row)) xs
+  unfolding eachFits
+  each-told [] g e = tt
+  each-told (x ∷ xs) g e =
+      let rest : Bytes = each (rowBytes w) xs in
+      let first : take (rowSize w) (rowBytes w x ++ rest) ≡ rowBytes w x = take-at (rowBytes w x) rest (rowSize w) (length-row w x) in
+      let others : drop (rowSize w) (rowBytes w x ++ rest) ≡ rest = drop-at (rowBytes w x) rest (rowSize w) (length-row w x) in
+      let (h, t) = and-split (rowFits w (take (rowSize w) (rowBytes w x ++ rest))) _ e in (
+        fits-told x (g .0) (subst (λ (z : Bytes). rowFits w z ≡ true) first h),
+        each-told xs (g .1) (subst (λ (z : Bytes). eachFits (rowFits w) (rowSize w) (length xs) z ≡ true) others t),
+      )
+
+  fits-made : (x : Deep FlatRow) → GoodFlatRow w x → RowFits w (x .row) → FittingRow w x
+  fits-made x g r =
+      record { least = r .plain .low; most = r .plain .high; value = r .value; element = r .element; text = r .plain .text; index = g .index; serial = g .serial }
+
+  each-made : (xs : List (Deep FlatRow)) → Every (GoodFlatRow w) xs → Every (λ x. RowFits w (x .row)) xs → eachFits (rowFits w) (rowSize w) (length xs) (each (rowBytes w) xs) ≡ true
+  unfolding eachFits
+  each-made [] g r = refl
+  each-made (x ∷ xs) g r =
+      let rest : Bytes = each (rowBytes w) xs in
+      let first : take (rowSize w) (rowBytes w x ++ rest) ≡ rowBytes w x = take-at (rowBytes w x) rest (rowSize w) (length-row w x) in
+      let others : drop (rowSize w) (rowBytes w x ++ rest) ≡ rest = drop-at (rowBytes w x) rest (rowSize w) (length-row w x) in
+      and-both (ap (rowFits w) first ∙ row-fits w x (fits-made x (g .0) (r .0)))
+      (ap (eachFits (rowFits w) (rowSize w) (length xs)) others ∙ each-made xs (g .1) (r .1))
+
+-- ---- the rows of a text
+-- rows that a text shows, the first with serial 1
+pub record Counted (w : ℕ) (xs : List (Deep FlatRow)) : Type 0 where
+  pub rows : Every (RowBounded w) xs
+  pub serials : serialsOfRows xs ≡ range 1 (length xs)
+
+counted-good : (w : ℕ) (xs : List (Deep FlatRow)) → length xs ≤ 4096 → Counted w xs → Every (GoodFlatRow w) xs
+counted-good w xs few c = every-in (GoodFlatRow w) xs (λ x m. row-made w x (every-at (RowBounded w) x xs (c .rows) m) (low x m))
+  where
+    low : (x : Deep FlatRow) → List·Memᴰ x xs → x .row .serial < 4294967296
+    low x m =
+        let i : List·Memᴰ (x .row .serial) (range 1 (length xs)) = subst (λ (ks : List ℕ). List·Memᴰ (x .row .serial) ks) (c .serials) (Memᴰ·map (λ (y : Deep FlatRow). y .row .serial) m) in
+        omega (arith, spent-below (counted-spent (length xs)) (x .row .serial) i .1)
+
+within-made : (w : ℕ) (xs : List (Deep FlatRow)) → Every (RowBounded w) xs → Within 256 xs
+within-made w [] h = tt
+within-made w (x ∷ xs) (h, t) = (h .depth, within-made w xs t)
+
+module _ (bs : Bytes) (q : passes bs ≡ true) (xs : List (Deep FlatRow)) (c : Counted (widthOf bs) xs) where
+  w : ℕ
+  w = widthOf bs
+
+  bytes : Bytes
+  bytes = each (rowBytes (widthOf bs)) xs
+
+  sound : (i : ℕ) → i < formByIndex bs .size → Distinct (names (formByIndex bs .model i))
+  sound i l =
+      let d : Headed bs = headed-of q in
+      let form = passes-in d (formByIndex bs) (λ x. index-agrees (laid-in d) (x .passes) (versionIn bs)) .0 q .0 in
+      index-once (laid-in d) (form .passes) (versionIn bs) i l
+
+  told : Every (GoodFlatRow (widthOf bs)) xs
+      → (machine (judge (formByIndex bs)) groundLevel noLevels 1 (rowsRead (widthOf bs) (length xs) (each (rowBytes (widthOf bs)) xs)) ≡ true) ↔ Documents (formByIndex bs) xs
+  unfolding noLevels
+  told g =
+      subst
+      (λ (ys : List (Deep FlatRow)). (machine (judge (formByIndex bs)) groundLevel noLevels 1 ys ≡ true) ↔ Documents (formByIndex bs) xs)
+      (sym (rows-back (widthOf bs) xs g))
+      (documents-judged (formByIndex bs) sound 256 xs noLevels refl refl (within-made (widthOf bs) xs (c .rows)))
+
+  -- they stand: so they join
+  pub stand-join : rowsStand bs xs ≡ true → RowsJoin bs xs
+  unfolding rowsStand verdict
+  stand-join e =
+      let (l, v) = and-split (leb (length xs) 4096) _ e in
+      let few : length xs ≤ 4096 = leb→le (length xs) 4096 (to-T l) in
+      let g : Every (GoodFlatRow (widthOf bs)) xs = counted-good (widthOf bs) xs few c in
+      let (fit, run) = and-split (fieldsFit (widthOf bs) (length xs) (each (rowBytes (widthOf bs)) xs)) _ v in
+      record {
+        fields = each-told (widthOf bs) xs g fit;
+        documents = told g .0 run;
+        serials = ap (serialsFit (1 + length xs)) (c .serials) ∙ counted-fit (length xs) few;
+        few = few;
+      }
+
+  pub join-stand : RowsJoin bs xs → rowsStand bs xs ≡ true
+  unfolding rowsStand verdict
+  join-stand j =
+      let g : Every (GoodFlatRow (widthOf bs)) xs = counted-good (widthOf bs) xs (j .few) c in
+      and-both (le-leb (length xs) 4096 (j .few)) (and-both (each-made (widthOf bs) xs g (j .fields)) (told g .1 (j .documents)))

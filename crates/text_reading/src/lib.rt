@@ -1,0 +1,1 @@
+//! Reading a printed text into a store.

@@ -1,0 +1,3 @@
+pub mod ScanLaws
+pub mod LoopLaws
+pub mod UndoingLaws

@@ -1,7 +1,7 @@
 # Completions of boxform for bash; made by 'boxform completions'.
 _boxform() {
     local word=${COMP_WORDS[COMP_CWORD]} before=${COMP_WORDS[COMP_CWORD - 1]} command=${COMP_WORDS[1]}
-    local commands="new check sum undo print show diff create-definition destroy-definition insert-element remove-element change-quantifier convert-to-group flatten-group change-group-quantifier add-attribute destroy-attribute add-document add-element destroy-element set-attribute destroy-attribute-row set-text run load help man completions" flags= words= files=yes
+    local commands="new read check sum undo print show diff create-definition destroy-definition insert-element remove-element change-quantifier convert-to-group flatten-group change-group-quantifier add-attribute destroy-attribute add-document add-element destroy-element set-attribute destroy-attribute-row set-text run load help man completions" flags= words= files=yes
     COMPREPLY=()
     if [ "$COMP_CWORD" -eq 1 ]; then
         COMPREPLY=($(compgen -W "$commands --help --version" -- "$word"))
@@ -9,6 +9,9 @@ _boxform() {
     fi
     case $command in
     new)
+        flags=""
+        ;;
+    read)
         flags=""
         ;;
     check)
@@ -174,7 +177,7 @@ _boxform() {
         ;;
     help)
         flags=""
-        words="new check sum undo print show diff create-definition destroy-definition insert-element remove-element change-quantifier convert-to-group flatten-group change-group-quantifier add-attribute destroy-attribute add-document add-element destroy-element set-attribute destroy-attribute-row set-text run load help man completions"
+        words="new read check sum undo print show diff create-definition destroy-definition insert-element remove-element change-quantifier convert-to-group flatten-group change-group-quantifier add-attribute destroy-attribute add-document add-element destroy-element set-attribute destroy-attribute-row set-text run load help man completions"
         ;;
     man)
         flags=""

@@ -30,7 +30,7 @@ static size_t length;
 static int calls;
 static int wrong;
 /* How often each number was answered. */
-static int answered[FORMSTORE_BUFFER + 1];
+static int answered[FORMSTORE_BAD_TEXT + 1];
 
 static void expect(const char *call, int holds, const char *what)
 {
@@ -52,13 +52,13 @@ static int kept_from(const uint8_t *buffer, size_t from, size_t size)
 static void count(struct formstore_answer answer)
 {
     calls++;
-    if (answer.number <= FORMSTORE_BUFFER)
+    if (answer.number <= FORMSTORE_BAD_TEXT)
         answered[answer.number]++;
 }
 
 static int every_refusal(void)
 {
-    for (size_t number = FORMSTORE_BAD_STORE; number <= FORMSTORE_BUFFER; number++)
+    for (size_t number = FORMSTORE_BAD_STORE; number <= FORMSTORE_BAD_TEXT; number++)
         if (!answered[number])
             return 0;
     return 1;
@@ -133,14 +133,16 @@ static void prints(const char *call, const char *wanted)
     expect(call, kept_from(text, size, sizeof text), "a byte past the text was written");
 }
 
+static const char printed[] = "<!ELEMENT race (finisher*)>\n"
+                              "<!ELEMENT finisher (bib,club,time?)>\n"
+                              "<!ELEMENT bib (#PCDATA)>\n"
+                              "<!ELEMENT time (#PCDATA)>\n"
+                              "<!ELEMENT club (#PCDATA)>\n"
+                              "<race><finisher><bib>7</bib><club>none</club><time>19:04</time></finisher></race>\n";
+
 static void clubform_prints(void)
 {
-    prints("print", "<!ELEMENT race (finisher*)>\n"
-                    "<!ELEMENT finisher (bib,club,time?)>\n"
-                    "<!ELEMENT bib (#PCDATA)>\n"
-                    "<!ELEMENT time (#PCDATA)>\n"
-                    "<!ELEMENT club (#PCDATA)>\n"
-                    "<race><finisher><bib>7</bib><club>none</club><time>19:04</time></finisher></race>\n");
+    prints("print", printed);
 }
 
 /* On the store that clubform leaves. */
@@ -220,6 +222,22 @@ static void other_changes(void)
     accept("implied", formstore_add_attribute(STORE, RACE, BYTES("day"), IMPLIED, BYTES(""), OUT), 284);
 }
 
+/* A new box, to which the club brings what the old one printed: the list is there again, its rows numbered anew. */
+static void read_texts(void)
+{
+    refuse("no text of a store", formstore_read_text(BYTES("<race></race>\n"), OUT), FORMSTORE_BAD_TEXT);
+    refuse("no line feed", formstore_read_text((const uint8_t *)printed, sizeof printed - 2, OUT), FORMSTORE_BAD_TEXT);
+    refuse("nor a buffer", formstore_read_text(BYTES("<race></race>\n"), buffers[1 - now], 0), FORMSTORE_BAD_TEXT);
+    refuse("short buffer", formstore_read_text(BYTES(printed), buffers[1 - now], 507), FORMSTORE_BUFFER);
+    accept("empty text", formstore_read_text(BYTES(""), OUT), FORMSTORE_FRESH_LENGTH);
+    accept("clubform's text", formstore_read_text(BYTES(printed), OUT), 508);
+    expect("read", formstore_next_serial(buffers[now]) == 9, "the next serial is not 9");
+    clubform_prints();
+    accept("set the club", formstore_set_text(STORE, 5, BYTES("LG Nord"), OUT), 508);
+    struct formstore_found found = formstore_look_up(STORE, 6);
+    expect("look up 6", found.number == 0 && found.length == 7, "the club is not found");
+}
+
 int main(void)
 {
     clubform();
@@ -229,6 +247,7 @@ int main(void)
     clubform_prints();
     other_changes();
     last_refusals();
+    read_texts();
     expect("refusals", every_refusal(), "a refusal was not met");
     printf("%d calls from C, %d wrong\n", calls, wrong);
     return wrong != 0;

@@ -1,8 +1,9 @@
 /* The form store of a timing box: one string of bytes that holds a DTD and the finish lists under it. These are the
  * calls that a box links; `rt staticlib formstore` proves them and writes target/staticlib/libformstore.a.
  *
- * A STORE is what a box keeps. It begins as FORMSTORE_FRESH. A change reads the store in one buffer and writes the new
- * store into another one, so that a refusal, or a crash between two calls, leaves the old store whole:
+ * A STORE is what a box keeps. It begins as FORMSTORE_FRESH, or as what formstore_read_text() makes of a printed text.
+ * A change reads the store in one buffer and writes the new store into another one, so that a refusal, or a crash
+ * between two calls, leaves the old store whole:
  *
  *     static const uint8_t fresh[FORMSTORE_FRESH_LENGTH] = FORMSTORE_FRESH;
  *     static uint8_t one[FORMSTORE_LONGEST];
@@ -99,7 +100,8 @@ extern "C" {
             40, 0, 0, 0, 0, 0, 0, 0  /* of the rows */                                                                 \
     }
 
-/* The refusals, in words for all calls that give them. Of those that apply the lowest number is given. */
+/* The refusals, in words for all calls that give them. Of those that apply the lowest number is given, and 19 before
+ * 18. */
 enum formstore_refusal {
     FORMSTORE_ACCEPTED = 0,
     FORMSTORE_BAD_STORE = 1,   /* the store does not pass the check */
@@ -124,7 +126,8 @@ enum formstore_refusal {
                                   have another member, while elements of the owner exist */
     FORMSTORE_CEILING = 16,    /* a ceiling would be passed */
     FORMSTORE_SERIALS = 17,    /* the next serial would pass 4,294,967,295 */
-    FORMSTORE_BUFFER = 18      /* `out` is too short; FORMSTORE_LONGEST or FORMSTORE_LONGEST_TEXT never is */
+    FORMSTORE_BUFFER = 18,     /* `out` is too short; FORMSTORE_LONGEST or FORMSTORE_LONGEST_TEXT never is */
+    FORMSTORE_BAD_TEXT = 19    /* no store that passes the check prints this text */
 };
 
 /* What the elements of a definition hold. */
@@ -186,6 +189,12 @@ struct formstore_found formstore_look_up(const uint8_t *store, size_t store_leng
 /* Prints the store as text: the DTD, then a line for each document; each line ends in a line feed. Refuses with 1 and
  * 18. */
 struct formstore_answer formstore_print(const uint8_t *store, size_t store_length, uint8_t *out, size_t out_length);
+
+/* Reads a text as formstore_print() writes it, to the byte, and writes a store that prints it. That need not be the
+ * store which was printed: rows have serials from 1 in document order and the next serial follows them, the fill of
+ * REQUIRED attributes is -, a definition printed EMPTY is EMPTY, and a group of one member is a LIST. The empty text
+ * gives a fresh store. Refuses with 19 and 18. */
+struct formstore_answer formstore_read_text(const uint8_t *text, size_t text_length, uint8_t *out, size_t out_length);
 
 /* The sixteen changes. Any uint32_t may be passed for a number. Each says with which numbers it refuses besides 1 and
  * 18, and which rows it makes or takes; where it says nothing of rows, it leaves them as they are. */

@@ -1,5 +1,6 @@
 //! Finish lists of chosen sizes, made by the second implementation.
 
+use crate::LENGTH;
 use second::Call;
 
 const RACE: u32 = 0;
@@ -109,12 +110,18 @@ fn form() -> Vec<u8> {
     )
 }
 
-/// The printed text as one document with its DTD.
-pub fn document(store: &[u8]) -> Vec<u8> {
-    let mut out = vec![0; 1 << 20];
+/// The printed text.
+pub fn printed(store: &[u8]) -> Vec<u8> {
+    let mut out = vec![0; LENGTH];
     let length = second::print(store, &mut out).length;
     out.truncate(length);
-    let start = out.windows(6).position(|part| part == b"<race>");
-    let (declared, list) = out.split_at(start.expect("a list"));
+    out
+}
+
+/// The printed text as one document with its DTD.
+pub fn document(store: &[u8]) -> Vec<u8> {
+    let text = printed(store);
+    let start = text.windows(6).position(|part| part == b"<race>");
+    let (declared, list) = text.split_at(start.expect("a list"));
     [b"<!DOCTYPE race [\n", declared, b"]>\n", list].concat()
 }

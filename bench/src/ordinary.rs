@@ -1,7 +1,7 @@
 //! All calls on finish lists as they stand in a box: what they take beside others on a list of 4,096 rows, and how they grow from 64 rows on.
 
 use crate::libxml2;
-use crate::lists::{document, list, Room};
+use crate::lists::{document, list, printed, Room};
 use crate::timing::{times, Spread, Work};
 use crate::LENGTH;
 use compare::asked::Asked;
@@ -69,6 +69,8 @@ const CHANGES: [Change; 16] = [
 struct Case {
     asked: Asked,
     store: Vec<u8>,
+    /// What the call reads: the list's store, or its text.
+    input: Vec<u8>,
 }
 
 impl Change {
@@ -77,10 +79,8 @@ impl Change {
         let line = self.line.replace("LAST", &finishers.to_string());
         let before = self.before.iter().map(|line| changes::of_line(line));
         let before: Vec<Call> = before.collect();
-        Case {
-            asked: Asked::Change(changes::of_line(&line)),
-            store: list(finishers, &before),
-        }
+        let asked = Asked::Change(changes::of_line(&line));
+        Case::of(asked, list(finishers, &before))
     }
 }
 
@@ -97,39 +97,56 @@ pub fn full_document() -> Vec<u8> {
 /// All calls on lists of at most so many rows.
 fn cases(rows: usize) -> Vec<Case> {
     let store = plain_list(rows);
-    let reading = [Asked::Check, Asked::LookUp(4), Asked::Print];
-    let reading = reading.map(|asked| Case {
-        asked,
-        store: store.clone(),
-    });
+    let reading = [
+        Asked::Check,
+        Asked::LookUp(4),
+        Asked::Print,
+        Asked::ReadText,
+    ];
+    let reading = reading.map(|asked| Case::of(asked, store.clone()));
     let changes = CHANGES.iter().map(|change| change.case(rows));
     reading.into_iter().chain(changes).collect()
 }
 
-/// What a call may take at most, by what libxml2 takes and by what the check of its own store takes.
-fn bars(asked: &Asked) -> [f64; 2] {
+/// What a call may take at most, by what libxml2 takes, by what the check of its own store takes and by what the second
+/// implementation takes.
+fn bars(asked: &Asked) -> [f64; 3] {
+    const ANY: f64 = f64::INFINITY;
     match asked {
-        Asked::Check => [0.15, f64::INFINITY],
-        Asked::LookUp(_) => [f64::INFINITY; 2],
-        Asked::Print => [0.35, f64::INFINITY],
-        Asked::Change(_) => [0.35, 2.5],
+        Asked::Check => [0.15, ANY, ANY],
+        Asked::LookUp(_) => [ANY; 3],
+        Asked::Print => [0.35, ANY, ANY],
+        Asked::ReadText => [0.5, ANY, 1.0],
+        Asked::Change(_) => [0.35, 2.5, ANY],
     }
 }
 
 impl Case {
+    fn of(asked: Asked, store: Vec<u8>) -> Case {
+        let input = match asked {
+            Asked::ReadText => printed(&store),
+            _ => store.clone(),
+        };
+        Case {
+            asked,
+            store,
+            input,
+        }
+    }
+
     fn run(&self, out: &mut [u8]) {
-        let number = self.asked.run(&self.store, out);
+        let number = self.asked.run(&self.input, out);
         assert_eq!(number, 0, "{}", self.asked.name());
     }
 
     fn run_second(&self, out: &mut [u8]) {
-        let number = self.asked.run_second(&self.store, out);
+        let number = self.asked.run_second(&self.input, out);
         assert_eq!(number, 0, "{}", self.asked.name());
     }
 
     fn run_libxml2(&self, text: &[u8]) {
         match &self.asked {
-            Asked::Check | Asked::LookUp(_) => libxml2::validate(text),
+            Asked::Check | Asked::LookUp(_) | Asked::ReadText => libxml2::validate(text),
             _ => assert!(libxml2::rewrite(text) > 0),
         }
     }
@@ -160,13 +177,14 @@ impl Case {
         let to = |other: &[f64]| Spread::ratio(&own, 1.0, other);
         let [check, second, libxml2] = [&check, &second, &libxml2].map(|other| to(other));
         let copy = Spread::ratio(&own, 1.0 / COPIES as f64, &copies);
-        let [most, most_checks] = bars(&self.asked);
+        let [most, most_checks, most_second] = bars(&self.asked);
         println!(
-            "{:24}{:>8.0}{:>20}{:>20}{second:>20}{copy:>20}",
+            "{:24}{:>8.0}{:>20}{:>20}{:>20}{copy:>20}",
             self.asked.name(),
             Spread::of(own).median,
             libxml2.marked(most),
             check.marked(most_checks),
+            second.marked(most_second),
         );
     }
 }
@@ -174,10 +192,11 @@ impl Case {
 pub fn print_ratios() {
     println!("Finish lists of at most 4,096 rows: microseconds of the processor, and the ratio to what others take in the same turn; medians of {TURNS} turns, in brackets the");
     println!("middle half. libxml2 parses and validates the printed text, and beside print and the changes it writes it out again too. The check is that of the");
-    println!("call's own store. The copy of the store is warm: a loop of {COPIES} into a buffer that was just used. Bars, and ! for what is over its bar: of libxml2");
-    println!("0.15 for the check and 0.35 for print and each change; of the check 2.5 for each change.\n");
+    println!("call's own store, of read_text that of the store which was printed. The copy of the store is warm: a loop of {COPIES} into a buffer that was just used.");
+    println!("Bars, and ! for what is over its bar: of libxml2 0.15 for the check, 0.35 for print and each change and 0.5 for read_text; of the check 2.5 for each");
+    println!("change; of second 1.0 for read_text.\n");
     println!(
-        "{:24}{:>8}{:>18}{:>20}{:>22}{:>20}",
+        "{:24}{:>8}{:>18}{:>20}{:>20}{:>22}",
         "call", "time", "libxml2", "check", "second", "warm copy"
     );
     for case in cases(FULL) {

@@ -9,6 +9,7 @@ use cases::{Case, CASES};
 use compare::asked::{value_serial, Asked};
 use compare::changes;
 use second::layout::encode;
+use second::print::text_of;
 use second::store::Store;
 use std::time::Instant;
 
@@ -19,10 +20,11 @@ const GROWTH_BAR: f64 = 1.2;
 /// At most.
 const TURNS: usize = 15;
 
-/// A store, and the calls on it.
+/// A store, its text, and the calls on them.
 struct Stage {
     rows: usize,
     bytes: Vec<u8>,
+    text: Vec<u8>,
     calls: Vec<Asked>,
 }
 
@@ -32,17 +34,25 @@ impl Stage {
         let bytes = encode(&store);
         assert_eq!(Asked::Check.run(&bytes, &mut []), 0, "{}", case.name);
         let look_up = Asked::LookUp(value_serial(&store));
-        let reading = [Asked::Check, look_up, Asked::Print];
+        let reading = [Asked::Check, look_up, Asked::Print, Asked::ReadText];
         let changes = case.changes.iter().map(|line| change(line, &store));
         Stage {
             rows: store.row_count(),
+            text: text_of(&store),
             bytes,
             calls: reading.into_iter().chain(changes).collect(),
         }
     }
 
+    fn input(&self, call: usize) -> &[u8] {
+        match self.calls[call] {
+            Asked::ReadText => &self.text,
+            _ => &self.bytes,
+        }
+    }
+
     fn run(&self, call: usize, out: &mut [u8]) -> u32 {
-        self.calls[call].run(&self.bytes, out)
+        self.calls[call].run(self.input(call), out)
     }
 
     /// What both implementations answer: accepted, or refused at the end.
@@ -50,9 +60,10 @@ impl Stage {
         let (asked, number) = (&self.calls[call], self.run(call, out));
         let refusal = match asked {
             Asked::LookUp(_) => 7,
+            Asked::ReadText => 0,
             _ => 16,
         };
-        assert_eq!(number, asked.run_second(&self.bytes, out));
+        assert_eq!(number, asked.run_second(self.input(call), out));
         assert!([0, refusal].contains(&number), "{}", asked.name());
         number
     }

@@ -20,6 +20,7 @@ pub struct Command {
 #[derive(Clone, Copy)]
 pub enum Action {
     New,
+    Read,
     Check,
     Sum,
     Undo,
@@ -119,6 +120,17 @@ pub fn commands() -> impl Iterator<Item = &'static Command> {
 
 const FILES: &[Command] = &[
     plain("new", Action::New, FILE, &[], "Makes FILE, with nothing in it; a file that is there stays.", ""),
+    plain(
+        "read",
+        Action::Read,
+        &["TEXT", "FILE"],
+        &[],
+        "Makes FILE, with the form and the lists of the printed text in TEXT; a file that is there stays.",
+        "For a club that holds only what its old box printed. TEXT is what 'print' prints without arguments, to the \
+         byte; FILE then prints it again. Rows have new serials, from 1 on in the order of the text, and a required \
+         attribute has the value - for elements made later. A text that no store prints is refused, with the line that \
+         is to blame where it is one.",
+    ),
     plain(
         "check",
         Action::Check,

@@ -288,7 +288,8 @@ fn counted(entries: &[Entry]) -> String {
     }
 }
 
-fn plural(count: usize, word: &str) -> String {
+/// `1 row`, `4,096 rows`.
+pub fn plural(count: usize, word: &str) -> String {
     let end = if count == 1 { "" } else { "s" };
     format!("{} {word}{end}", thousands(count))
 }

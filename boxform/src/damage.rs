@@ -43,7 +43,7 @@ fn header(bytes: &[u8]) -> Result<(), String> {
     match bytes {
         [] => Err("the file is empty".to_string()),
         [b'<', ..] => Err(
-            "this is a text of XML and no form store; boxform prints XML and does not read it"
+            "this is a text of XML and no form store; 'boxform read TEXT FILE' makes a store of a text that was printed"
                 .to_string(),
         ),
         _ if !begins => Err("this is no form store: it does not begin with version 1".to_string()),

@@ -5,7 +5,7 @@ use crate::damage;
 use crate::failure::Failure;
 use crate::output::note;
 use crate::sum::{self, beside, Sum};
-use formstore::{check, Refusal, Store, LONGEST};
+use formstore::{check, Refusal, Store, LONGEST, LONGEST_TEXT};
 use std::ffi::OsStr;
 use std::fs::{self, File, Metadata, OpenOptions, TryLockError};
 use std::io::{self, ErrorKind, Read, Write};
@@ -94,11 +94,20 @@ fn read_summed(path: &Path) -> io::Result<(Vec<u8>, Sum)> {
 }
 
 fn read_bytes(path: &Path) -> io::Result<Vec<u8>> {
+    read_up_to(path, LONGEST)
+}
+
+/// One byte more than this at the most, so that a longer file is no store and no printed text.
+fn read_up_to(path: &Path, most: usize) -> io::Result<Vec<u8>> {
     let mut bytes = Vec::new();
-    // One byte more than any store has, so that a longer file fails the check.
-    let most = LONGEST as u64 + 1;
+    let most = most as u64 + 1;
     File::open(path)?.take(most).read_to_end(&mut bytes)?;
     Ok(bytes)
+}
+
+/// The text in a file.
+pub fn printed(path: &Path) -> Result<Vec<u8>, Failure> {
+    read_up_to(path, LONGEST_TEXT).map_err(Failure::of(path))
 }
 
 /// The folder of a file, locked until it is closed, which the system does after a crash too.

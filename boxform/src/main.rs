@@ -26,6 +26,7 @@ mod sha256;
 mod show;
 mod suggest;
 mod sum;
+mod text;
 
 use change::{apply, change_file, undo};
 use commands::{commands, Action, Command};
@@ -91,6 +92,7 @@ fn act(command: &Command, given: &Given) -> Result<(), Failure> {
     let path = &given.file();
     match command.action {
         Action::New => create(path),
+        Action::Read => text::read(given),
         Action::Check => check(path),
         Action::Sum => take_sum(path),
         Action::Undo => undo(given),

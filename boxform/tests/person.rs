@@ -562,7 +562,7 @@ const WRONG_USE: &[(&str, &str)] = &[
     ),
     (
         "xyzzy club.form",
-        "unknown command xyzzy; there are: new, check, sum, undo, print",
+        "unknown command xyzzy; there are: new, read, check, sum, undo, print",
     ),
     ("shwo club.form", "unknown command shwo; did you mean show?"),
     (

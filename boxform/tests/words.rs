@@ -21,7 +21,7 @@ fn names(desk: &Desk) -> Vec<String> {
 fn help_for_each_command() {
     let desk = Desk::new();
     let names = names(&desk);
-    assert_eq!(names.len(), 28, "{names:?}");
+    assert_eq!(names.len(), 29, "{names:?}");
     for name in &names {
         let help = desk.done(&format!("{name} --help"));
         assert!(help.starts_with(&format!("boxform {name}")), "{help}");

@@ -5,11 +5,13 @@ use formstore::raw;
 use second::store::{Node, Store};
 use second::Call;
 
-/// A public call with its arguments.
+/// A public call with its arguments besides what it reads and where it writes.
 pub enum Asked {
     Check,
     LookUp(u32),
     Print,
+    /// It reads a text and no store.
+    ReadText,
     Change(Call),
 }
 
@@ -19,31 +21,34 @@ impl Asked {
             Asked::Check => "check",
             Asked::LookUp(_) => "look_up",
             Asked::Print => "print",
+            Asked::ReadText => "read_text",
             Asked::Change(call) => changes::name(call),
         }
     }
 
     /// The number that the library answers.
-    pub fn run(&self, store: &[u8], out: &mut [u8]) -> u32 {
+    pub fn run(&self, input: &[u8], out: &mut [u8]) -> u32 {
         match self {
-            Asked::Check => raw::check(store),
-            Asked::LookUp(serial) => raw::look_up(store, *serial).number,
-            Asked::Print => raw::print(store, out).number,
-            Asked::Change(call) => changes::apply(call, store, out).number,
+            Asked::Check => raw::check(input),
+            Asked::LookUp(serial) => raw::look_up(input, *serial).number,
+            Asked::Print => raw::print(input, out).number,
+            Asked::ReadText => raw::read_text(input, out).number,
+            Asked::Change(call) => changes::apply(call, input, out).number,
         }
     }
 
     /// The number that the second implementation answers.
-    pub fn run_second(&self, store: &[u8], out: &mut [u8]) -> u32 {
+    pub fn run_second(&self, input: &[u8], out: &mut [u8]) -> u32 {
         match self {
-            Asked::Check => second::check(store),
+            Asked::Check => second::check(input),
             Asked::LookUp(serial) => {
                 let mut number = 0;
-                second::look_up(store, *serial, &mut number);
+                second::look_up(input, *serial, &mut number);
                 number
             }
-            Asked::Print => second::print(store, out).number,
-            Asked::Change(call) => second::apply(call, store, out).number,
+            Asked::Print => second::print(input, out).number,
+            Asked::ReadText => second::read_text(input, out).number,
+            Asked::Change(call) => second::apply(call, input, out).number,
         }
     }
 }

@@ -1,8 +1,9 @@
 //! Random histories: every call runs on the library and on the second implementation, with good and hostile arguments,
 //! into buffers of all lengths, on sound and damaged stores; what an accepted one leaves is held to the book.
 
-use crate::{agreed, check, hostile};
+use crate::{agreed, check, hostile, texts};
 use second::layout::u32_at;
+use second::print::text_of;
 use second::random::damage::damaged;
 use second::random::history::{Counts, Moment, LONGEST};
 use second::random::{calls, documents, words};
@@ -39,6 +40,7 @@ impl Comparison {
         match self.rng.below(100) {
             0..=4 => self.grown(),
             5..=7 => self.full(),
+            8..=27 => self.read(),
             _ => self.built(),
         }
     }
@@ -62,17 +64,24 @@ impl Comparison {
     /// From a store that none needs to reach: rounds of groups, serials in no order, a next serial near the last,
     /// bodies near their ceilings.
     fn built(&mut self) {
-        let rng = &mut self.rng;
-        let store = match rng.below(20) {
-            0 => documents::store(rng, 64, 64, 4096),
-            1..=3 => documents::crowded_store(rng),
-            _ => documents::store(rng, 9, 8, 400),
-        };
-        let mut moment = Moment::at(store);
+        let mut moment = Moment::at(any_store(&mut self.rng));
+        self.short(&mut moment);
+    }
+
+    /// From the text of such a store, with the book that the text gives.
+    fn read(&mut self) {
+        let text = text_of(&any_store(&mut self.rng));
+        let read = texts::read(&mut self.rng, &text).expect("a printed text is read");
+        let mut moment = Moment::at_text(&text, read);
+        self.short(&mut moment);
+        moment.each_serial_made_once();
+    }
+
+    fn short(&mut self, moment: &mut Moment) {
         for _ in 0..10 {
-            let call = self.next_call(&moment);
-            self.step(&mut moment, &call);
-            self.probe(&moment);
+            let call = self.next_call(moment);
+            self.step(moment, &call);
+            self.probe(moment);
         }
     }
 
@@ -162,6 +171,14 @@ impl Comparison {
         self.counts.note(call, Answer { number, length });
         self.compared += 1;
         out
+    }
+}
+
+fn any_store(rng: &mut Rng) -> Store {
+    match rng.below(20) {
+        0 => documents::store(rng, 64, 64, 4096),
+        1..=3 => documents::crowded_store(rng),
+        _ => documents::store(rng, 9, 8, 400),
     }
 }
 

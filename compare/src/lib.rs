@@ -9,6 +9,7 @@ pub mod hostile;
 pub mod marks;
 pub mod reading_out;
 pub mod stack;
+pub mod texts;
 pub mod threads;
 pub mod worst;
 
@@ -59,7 +60,7 @@ impl Guarded {
         assert_eq!(
             &self.bytes[GUARD..GUARD + self.length],
             content,
-            "the store was written"
+            "what is read was written"
         );
     }
 }
@@ -95,6 +96,10 @@ pub fn print(store: &[u8], out: &mut [u8]) -> Answer {
     guarded(store, out, raw::print)
 }
 
+pub fn read_text(text: &[u8], out: &mut [u8]) -> Answer {
+    guarded(text, out, raw::read_text)
+}
+
 /// Runs a change.
 pub fn apply(call: &Call, store: &[u8], out: &mut [u8]) -> Answer {
     let given = call.clone();
@@ -106,15 +111,35 @@ pub fn apply(call: &Call, store: &[u8], out: &mut [u8]) -> Answer {
 /// Runs a change on the library and on the second implementation, each with a buffer of this content, panics where
 /// number, length or a byte of the buffer differ, and hands back the answer and the buffer.
 pub fn agreed(call: &Call, store: &[u8], buffer: &[u8]) -> (Answer, Vec<u8>) {
+    let own = |out: &mut [u8]| apply(call, store, out);
+    let second = |out: &mut [u8]| second::apply(call, store, out);
+    same_answer(buffer, own, second)
+        .unwrap_or_else(|why| panic!("{call:?} {why}; store {store:02x?}"))
+}
+
+/// Reads a text with both, as `agreed` runs a change.
+pub fn agreed_text(text: &[u8], buffer: &[u8]) -> (Answer, Vec<u8>) {
+    let own = |out: &mut [u8]| read_text(text, out);
+    let second = |out: &mut [u8]| second::read_text(text, out);
+    let shown = || String::from_utf8_lossy(text).to_string();
+    same_answer(buffer, own, second)
+        .unwrap_or_else(|why| panic!("read_text {why}; text {}", shown()))
+}
+
+/// The answer and the buffer that both leave, or what differs.
+fn same_answer(
+    buffer: &[u8],
+    own: impl FnOnce(&mut [u8]) -> Answer,
+    second: impl FnOnce(&mut [u8]) -> second::Answer,
+) -> Result<(Answer, Vec<u8>), String> {
     let (mut out, mut other) = (buffer.to_vec(), buffer.to_vec());
-    let answer = apply(call, store, &mut out);
-    let expected = second::apply(call, store, &mut other);
+    let (answer, expected) = (own(&mut out), second(&mut other));
     if (answer.number, answer.length) == (expected.number, expected.length) && out == other {
-        return (answer, out);
+        return Ok((answer, out));
     }
     let byte = out.iter().zip(&other).position(|(a, b)| a != b);
-    panic!(
-        "{call:?} into {} bytes: {answer:?}, wanted {expected:?}; first byte that differs: {byte:?}; store {store:02x?}",
+    Err(format!(
+        "into {} bytes: {answer:?}, wanted {expected:?}; first byte that differs: {byte:?}",
         buffer.len()
-    );
+    ))
 }

@@ -5,17 +5,19 @@ use crate::stack::Stack;
 use crate::{header, worst};
 use formstore::{LONGEST, LONGEST_TEXT};
 use second::layout::encode;
+use second::print::text_of;
 use second::random::damage::damaged;
 use second::random::{calls, documents};
 use second::rng::Rng;
 use second::store::Store;
+use second::testing::texts;
 use std::collections::BTreeMap;
 
 /// The most stack that a call needed.
 #[derive(Clone, Default)]
 pub struct Mark {
     pub bytes: usize,
-    /// On which store.
+    /// On which store or text.
     pub store: String,
     pub calls: usize,
     pub accepted: usize,
@@ -30,7 +32,7 @@ pub struct Marks {
 }
 
 impl Marks {
-    /// Of all calls on the worst stores.
+    /// Of all calls on the worst stores and texts.
     pub fn of_worst_stores() -> Marks {
         let mut marks = Marks {
             out: vec![0; LONGEST.max(LONGEST_TEXT)],
@@ -41,6 +43,9 @@ impl Marks {
             for call in worst.calls() {
                 marks.note(&worst.name, &worst.bytes, Asked::Change(call));
             }
+        }
+        for (name, text) in worst::texts() {
+            marks.note(&name, &text, Asked::ReadText);
         }
         marks
     }
@@ -56,6 +61,9 @@ impl Marks {
             };
             let bytes = encode(&store);
             self.read("random", &store, &bytes);
+            let text = text_of(&store);
+            self.note("random", &text, Asked::ReadText);
+            self.note("damaged", &texts::damaged(rng, &text), Asked::ReadText);
             for number in (1..=16).flat_map(|number| [number; 8]) {
                 let call = calls::call_of(rng, &store, number);
                 self.note("random", &bytes, Asked::Change(call.clone()));
@@ -77,10 +85,11 @@ impl Marks {
         }
     }
 
-    fn note(&mut self, name: &str, store: &[u8], asked: Asked) {
+    /// On a store, or on the text that is read.
+    fn note(&mut self, name: &str, input: &[u8], asked: Asked) {
         let mut number = 0;
         let (out, given) = (&mut self.out, &asked);
-        let bytes = self.stack.depth_of(|| number = given.run(store, out));
+        let bytes = self.stack.depth_of(|| number = given.run(input, out));
         let mark = self.marks.entry(asked.name()).or_default();
         mark.calls += 1;
         mark.accepted += usize::from(number == 0);

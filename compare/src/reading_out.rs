@@ -1,10 +1,13 @@
-//! Check, look-up and printing of random stores, damaged stores and random bytes, the library against the second
-//! implementation.
+//! Check, look-up and printing of random stores, damaged stores and random bytes, and reading of their texts, damaged
+//! ones and random bytes too, the library against the second implementation.
 
+use crate::texts;
 use second::layout::encode;
+use second::print::text_of;
 use second::random::damage::damaged;
 use second::random::documents;
 use second::rng::Rng;
+use second::testing::texts::damaged as damaged_text;
 
 pub struct Readings {
     rng: Rng,
@@ -13,6 +16,8 @@ pub struct Readings {
     pub strings: usize,
     /// Those of them that pass the check.
     pub passing: usize,
+    /// Texts that were read.
+    pub texts: usize,
 }
 
 impl Readings {
@@ -22,6 +27,7 @@ impl Readings {
             calls: 0,
             strings: 0,
             passing: 0,
+            texts: 0,
         }
     }
 
@@ -29,7 +35,9 @@ impl Readings {
     pub fn round(&mut self) {
         let rng = &mut self.rng;
         let (definitions, attributes, rows) = (1 + rng.below(8), rng.below(6), 1 + rng.below(40));
-        let store = encode(&documents::store(rng, definitions, attributes, rows));
+        let store = documents::store(rng, definitions, attributes, rows);
+        self.read_texts(&text_of(&store));
+        let store = encode(&store);
         self.compare(&store);
         for _ in 0..8 {
             let worse = damaged(&mut self.rng, &store);
@@ -38,6 +46,16 @@ impl Readings {
         let length = self.rng.below(201);
         let noise = self.rng.bytes(length);
         self.compare(&noise);
+        texts::read(&mut self.rng, &noise);
+    }
+
+    fn read_texts(&mut self, text: &[u8]) {
+        assert!(texts::read(&mut self.rng, text).is_some());
+        for _ in 0..4 {
+            let worse = damaged_text(&mut self.rng, text);
+            texts::read(&mut self.rng, &worse);
+        }
+        self.texts += 6;
     }
 
     fn compare(&mut self, store: &[u8]) {

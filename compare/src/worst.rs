@@ -4,7 +4,9 @@ mod calls;
 
 use second::filling::Maker;
 use second::layout::{encode, particle_count, u32_at, PARTICLE, ROW};
+use second::print::text_of;
 use second::store::*;
+use second::testing::texts::aimed;
 
 /// A store and what it is the worst of.
 pub struct Worst {
@@ -319,6 +321,27 @@ fn add_with_attributes(store: &mut Store, count: usize) {
         store.next_serial += 1;
     }
     store.documents.push(document);
+}
+
+/// Texts, each with what it is the worst of: those of the stores, with and without their last byte, those at the
+/// ceilings and past them, and those that are made to cost much.
+pub fn texts() -> Vec<(String, Vec<u8>)> {
+    let mut texts = Vec::new();
+    for worst in all() {
+        let text = text_of(&worst.store);
+        texts.push((
+            format!("{}, cut", worst.name),
+            text[..text.len() - 1].to_vec(),
+        ));
+        texts.push((worst.name, text));
+    }
+    for (what, at, over) in aimed::ceilings() {
+        texts.push((what.to_string(), at.into_bytes()));
+        texts.push((format!("{what}, one more"), over.into_bytes()));
+    }
+    let hostile = aimed::hostile().into_iter();
+    texts.extend(hostile.map(|text| ("hostile".to_string(), text)));
+    texts
 }
 
 /// All of them.

@@ -1,5 +1,5 @@
-//! Histories of all sixteen changes, grown from the fresh store and from built stores: the library answers as the
-//! second implementation does, and its stores are those of the book.
+//! Histories of all sixteen changes, grown from the fresh store, from built stores and from texts that were read: the
+//! library answers as the second implementation does, and its stores are those of the book.
 
 use compare::histories::Comparison;
 use compare::threads::in_threads;

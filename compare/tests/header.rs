@@ -73,11 +73,11 @@ fn documents() {
     }
 }
 
-/// Nineteen: the check, the look-up, printing and the sixteen changes.
+/// Twenty: the check, the look-up, printing, reading a text and the sixteen changes.
 #[test]
 fn calls() {
     let calls = header::calls();
-    assert_eq!(calls.len(), 19, "{calls:?}");
+    assert_eq!(calls.len(), 20, "{calls:?}");
 }
 
 /// The store at all ceilings is as long as a store gets, and its text nearly as long as the bound, which counts each

@@ -1,8 +1,9 @@
-//! No call needs more stack than the header says, on the worst stores that could be made and on random ones.
+//! No call needs more stack than the header says, on the worst stores and texts that could be made and on random ones.
 
 use compare::marks::Marks;
 use compare::stack::Stack;
 use compare::{changes, header, worst};
+use formstore::raw;
 use second::random::history::seed;
 use second::Call;
 use std::hint::black_box;
@@ -73,7 +74,14 @@ fn a_thread_with_so_much_stack_makes_all_calls() {
     let cases: Vec<_> = worst.map(|worst| (worst.calls(), worst.bytes)).collect();
     let mut out = vec![0; formstore::LONGEST];
     let task = thread::Builder::new().stack_size(bound() + OWN);
-    let made = task.spawn(move || accepted(&cases, &mut out));
-    let accepted = made.expect("a thread").join().expect("it ends");
-    assert!(accepted > 0, "no call was accepted");
+    let texts = worst::texts();
+    let made = task.spawn(move || {
+        let read = texts
+            .iter()
+            .filter(|(_, text)| raw::read_text(text, &mut out).number == 0);
+        (read.count(), accepted(&cases, &mut out))
+    });
+    let (read, accepted) = made.expect("a thread").join().expect("it ends");
+    assert!(accepted > 0, "no change was accepted");
+    assert!(read > 0, "no text was read");
 }

@@ -1,4 +1,5 @@
-//! Random stores, damaged stores and random bytes: the library and the second implementation read them alike.
+//! Random stores, damaged stores and random bytes, and texts of such stores: the library and the second implementation
+//! read them alike.
 
 use compare::reading_out::Readings;
 use second::random::history::seed;
@@ -11,7 +12,7 @@ fn the_same_answers_on_any_bytes() {
     while readings.strings < STRINGS {
         readings.round();
     }
-    let (strings, passing) = (readings.strings, readings.passing);
-    println!("{strings} byte strings, {passing} of them passing");
+    let (strings, passing, texts) = (readings.strings, readings.passing, readings.texts);
+    println!("{strings} byte strings, {passing} of them passing; {texts} texts");
     assert!(passing > STRINGS / 20);
 }

@@ -1,21 +1,22 @@
 //! The vectors through the library.
 
-use compare::Answer;
+use compare::{header, Answer};
 use second::testing::vectors::{run_files, same, Asked, Line};
 use std::collections::BTreeSet;
 
 fn run(line: &Line) -> Result<(), String> {
-    let store = &line.store;
+    let input = &line.input;
     let pair = |answer: Answer| (answer.number, answer.length);
     match &line.asked {
-        Asked::Check { passes } => same(compare::check(store) == 0, *passes),
+        Asked::Check { passes } => same(compare::check(input) == 0, *passes),
         Asked::LookUp { serial, found } => {
-            let given = compare::look_up(store, *serial);
+            let given = compare::look_up(input, *serial);
             let end = given.start + given.length;
             same((given.number, given.start, end), *found)
         }
-        Asked::Print(output) => output.compare(|out| pair(compare::print(store, out))),
-        Asked::Change(call, output) => output.compare(|out| pair(compare::apply(call, store, out))),
+        Asked::Print(output) => output.compare(|out| pair(compare::print(input, out))),
+        Asked::ReadText(output) => output.compare(|out| pair(compare::read_text(input, out))),
+        Asked::Change(call, output) => output.compare(|out| pair(compare::apply(call, input, out))),
     }
 }
 
@@ -27,5 +28,8 @@ fn all_lines() {
         run(line)
     });
     println!("{lines} lines agree");
-    assert_eq!(calls.len(), 19, "{calls:?}");
+    for call in header::calls() {
+        assert!(calls.remove(call), "no line of {call}");
+    }
+    assert!(calls.is_empty(), "{calls:?} are not in the header");
 }

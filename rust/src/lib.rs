@@ -1,11 +1,11 @@
 //! The form store of a timing box: one byte string that holds a DTD and the finish lists under it, with a check,
-//! sixteen changes, a look-up and printing. This crate calls the proved library, the archive `libformstore.a`, and adds
-//! no rule of its own.
+//! sixteen changes, a look-up, printing and reading a printed text back in. This crate calls the proved library, the
+//! archive `libformstore.a`, and adds no rule of its own.
 //!
 //! There are three ways to a call, each over the one before:
 //! - [`raw`]: the exported functions, with slices for pointers; they answer a number and a length;
-//! - the functions of this crate ([`check`], [`look_up`], [`print()`] and one for each change), which answer a
-//!   [`Result`] with a [`Refusal`];
+//! - the functions of this crate ([`check`], [`look_up`], [`print()`], [`read_text`] and one for each change), which
+//!   answer a [`Result`] with a [`Refusal`];
 //! - [`Store`], which owns its bytes and takes kinds, sorts and quantifiers as enums (feature `std`, on by default).
 //!
 //! [`Reader`] reads what a store holds: definitions with their models and attributes, and the rows of the documents.
@@ -142,6 +142,18 @@ pub fn look_up(store: &[u8], serial: u32) -> Result<&[u8], Refusal> {
 /// Refuses with `BadStore` and `Buffer`.
 pub fn print(store: &[u8], out: &mut [u8]) -> Result<usize, Refusal> {
     raw::print(store, out).result()
+}
+
+/// Reads a text as [`print()`] writes it, to the byte, and writes a store that prints it into `out`; answers the length
+/// of the store.
+///
+/// The store need not be the one that was printed: rows have serials from 1 in document order and the next serial
+/// follows them, the fill of REQUIRED attributes is `-`, a definition printed `EMPTY` is EMPTY, and a group of one
+/// member is a LIST. The empty text gives a fresh store.
+///
+/// Refuses with `BadText` where no store that passes the check prints the text, and with `Buffer`.
+pub fn read_text(text: &[u8], out: &mut [u8]) -> Result<usize, Refusal> {
+    raw::read_text(text, out).result()
 }
 
 macro_rules! answer {

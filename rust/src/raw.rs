@@ -43,7 +43,7 @@ impl Found {
     }
 }
 
-/// The refusal with this number; none for 0. The library gives no number past 18, since it answers what the rules say,
+/// The refusal with this number; none for 0. The library gives no number past 19, since it answers what the rules say,
 /// and those name no other.
 pub(crate) fn refusal(number: u32) -> Option<Refusal> {
     match number {
@@ -58,6 +58,12 @@ extern "C" {
     fn formstore_print(
         store: *const u8,
         store_length: usize,
+        out: *mut u8,
+        out_length: usize,
+    ) -> Answer;
+    fn formstore_read_text(
+        text: *const u8,
+        text_length: usize,
         out: *mut u8,
         out_length: usize,
     ) -> Answer;
@@ -79,6 +85,12 @@ pub fn look_up(store: &[u8], serial: u32) -> Found {
 pub fn print(store: &[u8], out: &mut [u8]) -> Answer {
     // SAFETY: as in `check` for both slices, and a `&mut` overlaps nothing.
     unsafe { formstore_print(store.as_ptr(), store.len(), out.as_mut_ptr(), out.len()) }
+}
+
+/// Reads a printed text and writes the store of it into `out`.
+pub fn read_text(text: &[u8], out: &mut [u8]) -> Answer {
+    // SAFETY: as in `print`.
+    unsafe { formstore_read_text(text.as_ptr(), text.len(), out.as_mut_ptr(), out.len()) }
 }
 
 /// Declares an exported function and calls it. A number passes as it is, bytes and a place as pointer and length.

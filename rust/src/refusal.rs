@@ -4,7 +4,8 @@ use core::fmt;
 
 macro_rules! refusals {
     ($($case:ident $number:literal $word:literal $reason:literal)*) => {
-        /// Why a call refused. Of the refusals that apply it is the one with the lowest number.
+        /// Why a call refused. Of the refusals that apply it is the one with the lowest number; `BadText` stands before
+        /// `Buffer`.
         #[derive(Clone, Copy, Debug, PartialEq, Eq, PartialOrd, Ord, Hash)]
         #[repr(u32)]
         pub enum Refusal {
@@ -13,9 +14,9 @@ macro_rules! refusals {
 
         impl Refusal {
             /// All refusals, by their numbers.
-            pub const ALL: [Refusal; 18] = [$(Refusal::$case),*];
+            pub const ALL: [Refusal; 19] = [$(Refusal::$case),*];
 
-            /// The number in the table, 1 to 18.
+            /// The number in the table, 1 to 19.
             pub fn number(self) -> u32 {
                 self as u32
             }
@@ -56,6 +57,7 @@ refusals! {
     Ceiling 16 "ceiling" "the store would pass a ceiling: 64 definitions, 256 particles, 64 attributes, 4,096 rows, groups 4 deep"
     Serials 17 "serials" "the serials would run out"
     Buffer 18 "buffer" "the output is longer than its buffer"
+    BadText 19 "bad text" "no store prints this text"
 }
 
 impl fmt::Display for Refusal {

@@ -76,6 +76,27 @@ impl Store {
         Ok(Store { bytes })
     }
 
+    /// The store of a printed text; it prints the text again. What may be otherwise than in the store that was printed,
+    /// [`crate::read_text`] says.
+    ///
+    /// ```
+    /// use formstore::{Refusal, Store};
+    ///
+    /// let text = b"<!ELEMENT time (#PCDATA)>\n<time>19:04</time>\n";
+    /// assert_eq!(Store::read_text(text)?.print()?, text);
+    /// assert_eq!(Store::read_text(b"<!ELEMENT time ANY>\n"), Err(Refusal::BadText));
+    /// # Ok::<(), Refusal>(())
+    /// ```
+    ///
+    /// Refuses with `BadText`.
+    pub fn read_text(text: &[u8]) -> Result<Store, Refusal> {
+        let mut bytes = vec![0; LONGEST];
+        let length = crate::read_text(text, &mut bytes)?;
+        bytes.truncate(length);
+        bytes.shrink_to_fit();
+        Ok(Store { bytes })
+    }
+
     /// The bytes, as a box keeps them.
     pub fn as_bytes(&self) -> &[u8] {
         &self.bytes

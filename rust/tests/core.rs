@@ -32,6 +32,8 @@ fn two_buffers_in_turn() {
     );
     let text = changed(&mut one, |out| print(list, out));
     assert!(text.starts_with(b"<!ELEMENT race (time+)>\n"));
+    let mut back = [0; 512];
+    assert_eq!(changed(&mut back, |out| read_text(text, out)), list);
     assert_eq!(
         destroy_element(list, 2, &mut [0; 512]),
         Err(Refusal::NoMatch)

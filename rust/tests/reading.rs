@@ -143,9 +143,34 @@ fn refusals_by_number() {
     for refusal in Refusal::ALL {
         assert_eq!(Refusal::try_from(refusal.number()), Ok(refusal));
     }
-    for number in [0, 19, u32::MAX] {
+    for number in [0, 20, u32::MAX] {
         assert_eq!(Refusal::try_from(number), Err(UnknownRefusal));
     }
+}
+
+/// A store without attributes, empty models and groups comes back as it was, but for its serials; one with them need
+/// not.
+#[test]
+fn stores_from_texts() {
+    let store = finish_list();
+    let text = store.print().expect("it passes");
+    let read = Store::read_text(&text).expect("it was printed");
+    assert_eq!(read.as_bytes().len(), store.as_bytes().len());
+    assert_eq!(read.print().as_ref(), Ok(&text));
+    let serials: Vec<u32> = read.reader().rows().map(|row| row.serial).collect();
+    assert!(serials.into_iter().eq(1..read.reader().next_serial()));
+    assert_eq!(Store::read_text(b""), Ok(Store::fresh()));
+    assert_eq!(Store::read_text(&text[1..]), Err(Refusal::BadText));
+    let mut form = Store::fresh();
+    assert_eq!(form.create_definition(b"a", Kind::Complex), Ok(()));
+    assert_eq!(
+        form.add_attribute(0, b"r", AttributeSort::Required, b"fill"),
+        Ok(())
+    );
+    let read = Store::read_text(&form.print().expect("it passes")).expect("it was printed");
+    let reader = read.reader();
+    assert_eq!(reader.definition(0).map(|own| own.kind), Some(Kind::Empty));
+    assert_eq!(reader.attribute(0).map(|own| own.value), Some("-"));
 }
 
 #[test]

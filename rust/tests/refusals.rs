@@ -129,6 +129,17 @@ fn reading_out() {
     assert_eq!(Reader::new(&[]).map(|_| ()), Err(Refusal::BadStore));
 }
 
+/// The text is judged before the buffer.
+#[test]
+fn texts() {
+    let text = finish_list().print().expect("it passes");
+    let mut out = [0xEE; 100];
+    assert_eq!(read_text(&text, &mut out), Err(Refusal::Buffer));
+    assert_eq!(read_text(&text[1..], &mut out), Err(Refusal::BadText));
+    assert_eq!(read_text(&text[1..], &mut []), Err(Refusal::BadText));
+    assert_eq!(out, [0xEE; 100]);
+}
+
 #[test]
 fn numbers_and_words() {
     for (index, refusal) in Refusal::ALL.into_iter().enumerate() {
@@ -144,7 +155,7 @@ fn numbers_and_words() {
 #[test]
 fn answers_of_no_table_do_not_panic() {
     let answer = raw::Answer {
-        number: 19,
+        number: 20,
         length: 0,
     };
     assert_eq!(answer.result(), Err(Refusal::BadStore));

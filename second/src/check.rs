@@ -36,7 +36,8 @@ pub fn name_ok(name: &[u8]) -> bool {
 
 /// XML 1.0 keeps names that begin with x, m, l, in either case, for itself.
 pub fn reserved(name: &[u8]) -> bool {
-    name.get(..3).is_some_and(|start| start.eq_ignore_ascii_case(b"xml"))
+    name.get(..3)
+        .is_some_and(|start| start.eq_ignore_ascii_case(b"xml"))
 }
 
 pub fn value_ok(value: &[u8]) -> bool {

@@ -243,21 +243,6 @@ pub fn particle_count(members: &[Particle]) -> usize {
         .sum()
 }
 
-/// The length of the encoding.
-pub fn encoded_length(store: &Store) -> usize {
-    let form = &store.form;
-    let particles: usize = form
-        .definitions
-        .iter()
-        .map(|definition| particle_count(&definition.model))
-        .sum();
-    HEADER
-        + form.definitions.len() * DEFINITION
-        + particles * PARTICLE
-        + form.attributes.len() * ATTRIBUTE
-        + store.row_count() * ROW
-}
-
 pub fn encode(store: &Store) -> Vec<u8> {
     let form = &store.form;
     let mut bodies: [Vec<u8>; 4] = Default::default();

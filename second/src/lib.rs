@@ -1,12 +1,13 @@
-//! The form store of paper 01, a second time: plain trees and plain loops,
-//! written from the paper alone. It is the judge of the proved library's
-//! bytes, so it shares nothing with it.
+//! The form store of paper 01, with the requests of paper 02 that are done, a
+//! second time: plain trees and plain loops, written from the papers alone. It
+//! is the judge of the proved library's bytes, so it shares nothing with it.
 //!
 //! The names and the order of arguments are those of INTERFACE.md.
 //!
 //! [`testing`] is what tests share and no part of the implementation.
 
 pub mod book;
+mod book_start;
 pub mod call;
 pub mod changes;
 pub mod check;
@@ -16,6 +17,7 @@ pub mod layout;
 pub mod model;
 pub mod outcome;
 pub mod print;
+pub mod reading;
 pub mod rows;
 pub mod store;
 pub mod testing;
@@ -33,6 +35,7 @@ pub use changes::models::{
 pub use check::{check, read};
 pub use outcome::{Answer, Refusal};
 pub use print::{look_up, print};
+pub use reading::read_text;
 pub use rows::{rows, Row, RowSort};
 pub use testing::{random, rng};
 

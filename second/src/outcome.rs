@@ -11,7 +11,7 @@ pub struct Answer {
 }
 
 /// The rows of paper 01's table of refusals, by their words.
-#[derive(Clone, Copy, Debug, PartialEq, Eq, PartialOrd, Ord)]
+#[derive(Clone, Copy, Debug, PartialEq, Eq)]
 #[repr(u32)]
 pub enum Refusal {
     BadStore = 1,
@@ -32,6 +32,8 @@ pub enum Refusal {
     Ceiling = 16,
     Serials = 17,
     Buffer = 18,
+    /// Of paper 02; it stands before 18.
+    BadText = 19,
 }
 
 /// Refuses where the condition holds. The changes ask their conditions in the
@@ -42,6 +44,13 @@ pub fn refuse_if(condition: bool, refusal: Refusal) -> Result<(), Refusal> {
     } else {
         Ok(())
     }
+}
+
+/// Writes what a call leaves; 18 where the buffer is too short for it.
+pub fn write(content: &[u8], out: &mut [u8]) -> Result<usize, Refusal> {
+    let room = out.get_mut(..content.len()).ok_or(Refusal::Buffer)?;
+    room.copy_from_slice(content);
+    Ok(content.len())
 }
 
 impl From<Result<usize, Refusal>> for Answer {

@@ -2,17 +2,14 @@
 
 use crate::check;
 use crate::layout;
-use crate::outcome::{refuse_if, Answer, Refusal};
+use crate::outcome::{write, Answer, Refusal};
 use crate::store::*;
 
 /// Writes the declarations and the documents as text.
 pub fn print(store: &[u8], out: &mut [u8]) -> Answer {
     let result = (|| {
         let store = check::read(store).ok_or(Refusal::BadStore)?;
-        let text = text_of(&store);
-        refuse_if(text.len() > out.len(), Refusal::Buffer)?;
-        out[..text.len()].copy_from_slice(&text);
-        Ok(text.len())
+        write(&text_of(&store), out)
     })();
     Answer::from(result)
 }

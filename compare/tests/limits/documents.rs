@@ -175,7 +175,9 @@ fn names() {
     for reserved in ["xml", "XML", "xMl", "XmL9", "xmlTime", "xML-a.b_c0123456"] {
         check(reserved.as_bytes(), false);
     }
-    for free in ["xm", "XM", "xmk", "xmK", "ymL", "xnl", "axml", "_xml", "x-ml", "mxl"] {
+    for free in [
+        "xm", "XM", "xmk", "xmK", "ymL", "xnl", "axml", "_xml", "x-ml", "mxl",
+    ] {
         check(free.as_bytes(), true);
     }
     for (name, wanted) in [(b"a", 5), (b"m", 5), (b"A", 0)] {

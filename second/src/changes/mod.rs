@@ -7,7 +7,7 @@ pub mod models;
 
 use crate::check;
 use crate::layout;
-use crate::outcome::{refuse_if, Answer, Refusal};
+use crate::outcome::{refuse_if, write, Answer, Refusal};
 use crate::store::*;
 
 /// Reads the store, lets `change` change it and say how many rows it made, and
@@ -30,10 +30,7 @@ fn leave(mut store: Store, made: usize, out: &mut [u8]) -> Result<usize, Refusal
     refuse_if(!check::within_ceilings(&store), Refusal::Ceiling)?;
     let next_serial = store.next_serial as u64 + made as u64;
     store.next_serial = u32::try_from(next_serial).map_err(|_| Refusal::Serials)?;
-    let length = layout::encoded_length(&store);
-    refuse_if(length > out.len(), Refusal::Buffer)?;
-    out[..length].copy_from_slice(&layout::encode(&store));
-    Ok(length)
+    write(&layout::encode(&store), out)
 }
 
 /// The index as one into a table of `count` records.

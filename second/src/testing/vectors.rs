@@ -1,8 +1,8 @@
-//! The vectors: each line names a call and has its store, its arguments and
+//! The vectors: each line names a call and has what it reads, its arguments and
 //! what it must answer. This is the one reader of them.
 
 use crate::call::{apply, Call};
-use crate::{check, look_up, print};
+use crate::{check, look_up, print, read_text, Answer};
 use std::io::Write;
 use std::path::{Path, PathBuf};
 
@@ -61,15 +61,17 @@ fn parse_number(word: &str) -> Result<u32, String> {
 pub struct Line<'a> {
     /// Of the call.
     pub name: &'a str,
-    pub store: Vec<u8>,
+    /// What the call reads: a store, or the text of `read_text`.
+    pub input: Vec<u8>,
     pub asked: Asked,
 }
 
-/// What a line asks of its store, and what must come out.
+/// What a line asks of its input, and what must come out.
 pub enum Asked {
     Check { passes: bool },
     LookUp { serial: u32, found: Found },
     Print(Output),
+    ReadText(Output),
     Change(Call, Output),
 }
 
@@ -90,10 +92,10 @@ impl<'a> Line<'a> {
     pub fn read(line: &'a str) -> Result<Line<'a>, String> {
         let mut words = Words::of(line);
         let name = words.word();
-        let store = words.bytes()?;
+        let input = words.bytes()?;
         let asked = Asked::read(name, &mut words)?;
         words.end()?;
-        Ok(Line { name, store, asked })
+        Ok(Line { name, input, asked })
     }
 }
 
@@ -117,6 +119,7 @@ impl Asked {
                 ),
             },
             "print" => Asked::Print(Output::read(words)?),
+            "read_text" => Asked::ReadText(Output::read(words)?),
             _ => {
                 let call = read_call(name, words)?;
                 Asked::Change(call, Output::read(words)?)
@@ -252,18 +255,14 @@ impl Output {
 
 /// Runs a line on this implementation; the error says what differs.
 pub fn run(line: &Line) -> Result<(), String> {
-    let store = &line.store;
+    let input = &line.input;
+    let pair = |answer: Answer| (answer.number, answer.length);
     match &line.asked {
-        Asked::Check { passes } => same(check(store) == 0, *passes),
-        Asked::LookUp { serial, found } => compare_look_up(store, *serial, *found),
-        Asked::Print(output) => output.compare(|out| {
-            let answer = print(store, out);
-            (answer.number, answer.length)
-        }),
-        Asked::Change(call, output) => output.compare(|out| {
-            let answer = apply(call, store, out);
-            (answer.number, answer.length)
-        }),
+        Asked::Check { passes } => same(check(input) == 0, *passes),
+        Asked::LookUp { serial, found } => compare_look_up(input, *serial, *found),
+        Asked::Print(output) => output.compare(|out| pair(print(input, out))),
+        Asked::ReadText(output) => output.compare(|out| pair(read_text(input, out))),
+        Asked::Change(call, output) => output.compare(|out| pair(apply(call, input, out))),
     }
 }
 
@@ -320,12 +319,18 @@ pub fn run_files(mut run: impl FnMut(&Line) -> Result<(), String>) -> usize {
 }
 
 /// How many of paper 02's requests are done: their vectors hold, too.
-const REQUESTS: usize = 1;
+const REQUESTS: usize = 2;
 
 /// Whether a file has the vectors of a request that is done: its name begins with the request's number.
 fn is_of_done(path: &Path) -> bool {
-    let name = path.file_name().and_then(|name| name.to_str()).unwrap_or_default();
-    let number = name.split('-').next().and_then(|number| number.parse().ok());
+    let name = path
+        .file_name()
+        .and_then(|name| name.to_str())
+        .unwrap_or_default();
+    let number = name
+        .split('-')
+        .next()
+        .and_then(|number| number.parse().ok());
     number.is_some_and(|number: usize| number <= REQUESTS)
 }
 
@@ -333,7 +338,9 @@ fn is_of_done(path: &Path) -> bool {
 fn texts(folder: &Path) -> std::io::Result<Vec<PathBuf>> {
     let entries = std::fs::read_dir(folder)?;
     let paths = entries.map(|entry| entry.expect("the folder can be read").path());
-    Ok(paths.filter(|path| path.extension().is_some_and(|end| end == "txt")).collect())
+    Ok(paths
+        .filter(|path| path.extension().is_some_and(|end| end == "txt"))
+        .collect())
 }
 
 /// The sample in the repository, and the files of the folder FORM_VECTORS, or of

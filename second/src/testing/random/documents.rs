@@ -115,23 +115,26 @@ pub fn number(rng: &mut Rng, store: &mut Store) {
         serial
     };
     for document in &mut store.documents {
-        document.for_each_mut(&mut |element| {
-            element.serial = next();
-            for row in &mut element.attributes {
-                row.serial = next();
-            }
-            for node in &mut element.content {
-                if let Node::Text(text) = node {
-                    text.serial = next();
-                }
-            }
-        });
+        document.for_each_mut(&mut |element| number_rows(element, &mut next));
     }
     store.next_serial = match rng.below(8) {
         0 => u32::MAX - rng.below(12) as u32,
         1 => highest + 1 + rng.below(1000) as u32,
         _ => highest + 1,
     };
+}
+
+/// Numbers the element's own rows; those of its children are not among them.
+pub fn number_rows(element: &mut Element, next: &mut impl FnMut() -> u32) {
+    element.serial = next();
+    for row in &mut element.attributes {
+        row.serial = next();
+    }
+    for node in &mut element.content {
+        if let Node::Text(text) = node {
+            text.serial = next();
+        }
+    }
 }
 
 /// A random store that passes.

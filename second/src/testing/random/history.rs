@@ -6,6 +6,7 @@ use crate::layout;
 use crate::rng::Rng;
 use crate::store::Store;
 use crate::{apply, check, rows, Answer, Book, Call, Row};
+use std::fmt::Debug;
 use std::sync::OnceLock;
 
 /// The longest store that the ceilings allow.
@@ -112,6 +113,14 @@ impl Moment {
         }
     }
 
+    /// The start of a history at a text, of which this store was read.
+    pub fn at_text(text: &[u8], read: Vec<u8>) -> Moment {
+        let book = Book::of_text(text).expect("an accepted text starts a book");
+        let store = agreeing(&read, &book, &"reading");
+        let bytes = read;
+        Moment { bytes, store, book }
+    }
+
     pub fn random_call(&self, rng: &mut Rng) -> Call {
         calls::call(rng, &self.store)
     }
@@ -154,25 +163,31 @@ impl Moment {
         let Some(written) = written else {
             return;
         };
-        assert_eq!(check(&written), 0, "{call:?} left a bad store");
-        let left = layout::decode(&written).expect("it passes");
-        assert!(layout::encode(&left) == written, "{call:?}");
-        assert_eq!(left.next_serial, self.book.next_serial, "{call:?}");
-        assert_eq!(left.form, self.book.form, "{call:?}");
-        let after = rows(&written).expect("it passes");
-        assert_eq!(after, self.book.rows(), "{call:?}");
-        kept_and_made(call, &before, &after, self.store.next_serial);
+        let left = agreeing(&written, &self.book, call);
+        kept_and_made(call, &before, &self.book.rows(), self.store.next_serial);
         self.store = left;
         self.bytes = written;
     }
 
     /// No serial was used again, and none below the next one left out. The
-    /// history began at the fresh store.
+    /// history began at the fresh store or at a text.
     pub fn each_serial_made_once(&self) {
         let mut serials: Vec<u32> = self.book.lines().map(|line| line.row.serial).collect();
         serials.sort();
         assert!(serials.into_iter().eq(1..self.book.next_serial));
     }
+}
+
+/// The trees of the store that a call left, which is what the book says.
+fn agreeing(written: &[u8], book: &Book, call: &impl Debug) -> Store {
+    assert_eq!(check(written), 0, "{call:?} left a bad store");
+    let left = layout::decode(written).expect("it passes");
+    assert!(layout::encode(&left) == written, "{call:?}");
+    assert_eq!(left.next_serial, book.next_serial, "{call:?}");
+    assert_eq!(left.form, book.form, "{call:?}");
+    let rows = rows(written).expect("it passes");
+    assert_eq!(rows, book.rows(), "{call:?}");
+    left
 }
 
 /// What the taking rule says of any accepted call, whatever the book holds:

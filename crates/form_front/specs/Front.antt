@@ -8,7 +8,7 @@ use Rattle.rules.specs.Bytes.{Bytes}
 use Rattle.printing.specs.Texts.{textOf}
 use Rattle.text_scan.specs.Scan.{startsWith}
 
--- room for the text of a form: at most 23,616 bytes at a width of 32
+-- room for the text of a form, which has at most 23,232 bytes at width 32 (`form-text-bytes` of `declaration_laws`)
 abbrev pub formTextRoom : ℕ
 formTextRoom = 24576
 

@@ -1,13 +1,20 @@
 -- What the code tells of a token.
-use Prim.Native.Nat.{ℕ, zero, suc, _+_, _≤_}
+use Prim.Native.Nat.{ℕ, zero, suc, _+_, _*_, _≤_}
 use mathlib.Core.Path.{_≡_}
 use mathlib.Core.Bool.{Bool, true, _&&_}
 use mathlib.Core.List.{List, [], _∷_}
 use lib.Dec.{eqb}
 use lib.ListN.{length, getD, take, drop}
 use Rattle.rules.specs.Bytes.{Bytes, ascii}
+use Rattle.rules.specs.Decode.{definitionCount, attributeCount}
 use Rattle.text_scan.specs.Scan.{firstByte, startsWith, frontWhile, afterWhile, noQuote, unescaped, valueOfRaw}
 use Rattle.document_tokens.specs.Tokens.{Token, shortValue}
+
+-- what the code asks of a form: its numbers within the ceilings, and its definitions all there
+pub record FormRoom (form : Bytes) : Type 0 where
+  pub definitions-few : definitionCount form ≤ 64
+  pub attributes-few : attributeCount form ≤ 64
+  pub definitions-there : 40 + 20 * definitionCount form ≤ length form
 
 -- the definitions of the elements that are opened, the innermost first, as the code holds them: d bytes, the
 -- innermost last

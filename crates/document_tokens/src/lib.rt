@@ -6,10 +6,10 @@ ghost use Prim.Native.Nat.{_≤_};
 ghost use lib.Dec.{eqb};
 ghost use lib.ListN.{length};
 ghost use Rattle.rules.specs.Bytes.{same};
-ghost use Rattle.rules.specs.Decode.{readAttribute, definitionCount};
+ghost use Rattle.rules.specs.Decode.{readAttribute};
 ghost use Rattle.lookup.specs.Bodies.{bodiesOf};
 ghost use Rattle.document_tokens.specs.Tokens.{declaredIn, kindOfDefinition, attributeAmong, elementToken, attributeToken, textToken, tagToken, startEndToken, endToken, tokenAt};
-ghost use Rattle.document_tokens.specs.Telling.{stackOf, Tells, ValueRead, Quotes};
+ghost use Rattle.document_tokens.specs.Telling.{FormRoom, stackOf, Tells, ValueRead, Quotes};
 use text_scan::Unescaped;
 
 /// What stands at a place of a text. `exact`: as it is printed; `sort`: the code of the row that it makes, 0 if it
@@ -112,7 +112,7 @@ fn end_token(form: &[u8], o: usize, others: usize, text: &[u8]) -> Token
 
 // `<` and a name.
 fn element_token(form: &[u8], text: &[u8]) -> Token
-    requires { ⌜ definitionCount (now form) ≤ 64 ⌝ }
+    requires { ⌜ FormRoom (now form) ⌝ }
     ensures { λ r. ⌜ Tells (elementToken (declaredIn (now (form .entry))) (now (text .entry))) [] (r .exact) (r .size) (r .sort) (r .index) (r .length) [] ⌝ }
 {
     let rest = codec::after(text, 1);
@@ -234,7 +234,7 @@ pub fn token_at(
     tag: bool,
     value: &mut [u8],
 ) -> Token
-    requires { ⌜ (w ≤ length (now value)) × (definitionCount (now form) ≤ 64) × (depth ≤ 255) ⌝ }
+    requires { ⌜ (w ≤ length (now value)) × FormRoom (now form) × (depth ≤ 255) ⌝ }
     ensures { λ r. ⌜ Tells (tokenAt (declaredIn (now (form .entry))) w (stackOf depth (now (opened .entry))) tag (now (text .entry))) (now (value .entry))
         (r .exact) (r .size) (r .sort) (r .index) (r .length) (now (value .exit)) ⌝ }
 {

@@ -1,5 +1,2 @@
-pub mod RowLaws
-pub mod StackLaws
-pub mod AfterLaws
-pub mod StepLaws
+pub mod FitLaws
 pub mod LoopLaws

@@ -1,25 +1,36 @@
--- The loop over the tokens of a text: what is left to judge gives the verdict.
-use mathlib.Core.Path.{_≡_, refl, sym, ap, _∙_}
-use mathlib.Core.Bool.{Bool, true, false, _&&_, false≢true}
+-- The loop over the documents of a text: what is left to judge gives the verdict.
+use mathlib.Core.Path.{_≡_, refl, sym, ap, subst, _∙_}
+use mathlib.Core.Bool.{Bool, true, false, _&&_, _||_, not, false≢true}
 use mathlib.Core.Option.{Option, none, some}
 use mathlib.Core.List.{List, [], _∷_}
-use Prim.Native.Nat.{ℕ, _+_, _≤_}
+use Prim.Native.Nat.{ℕ, _+_, _-_, _*_, _<_, _≤_}
 use native.Mathlib.Omega.{arith}
 use native.Mathlib.Nat.{zero-add}
-use lib.Dec.{eqb}
-use lib.ListN.{length, drop, replicate}
+use borrow.Author.Tests.{ltb-true, ltb-false}
+use lib.Dec.{eqb, ltb}
+use lib.ListN.{length, take, drop, replicate}
+use lib.Seq.{length-take-le}
 use Rattle.rules.specs.Bytes.{Bytes, isNone}
 use Rattle.rules.specs.Preorder.{Deep}
-use Rattle.rules.specs.Layout.{FlatRow}
+use Rattle.rules.specs.Layout.{FlatRow, rowSize, rowBytes, each}
+use Rattle.codec.proofs.Writers.{laid-long}
 use Rattle.form_index.specs.Indices.{IndexForm}
 use Rattle.next_row.specs.declared.Level.{Level}
 use Rattle.row_step.specs.Steps.{State, noLevels, startState, end, stateOf}
 use Rattle.row_step.proofs.LevelLaws.{none-yet}
-use Rattle.document_tokens.specs.Tokens.{Declared, declaredIn}
+use Rattle.row_check.specs.Stepping.{StepsMade}
+use Rattle.document_tokens.specs.Tokens.{Declared, declaredIn, withRows}
 use Rattle.document_tokens.specs.Telling.{stackOf}
 use Rattle.document_tokens.proofs.ChoiceLaws.{stack-size}
-use Rattle.document_reading.specs.Judging.{documentsIn, rowsOr, fitFrom, rowsFit, Judges, rowsHere, TokenStep}
-use Rattle.document_reading.proofs.RowLaws.{rows-ended, fit-ended}
+use Rattle.document_row_writer.specs.Putting.{documentsIn, rowsOr, rowsHere, Taken, SomePut}
+use Rattle.document_row_writer.proofs.RowLaws.{rows-ended}
+use Rattle.document_reading.specs.Judging.{fitFrom, rowsFit, Judges}
+use Rattle.document_reading.proofs.FitLaws.{fit-refused, fit-taken, fit-many, more-rows, fit-ended, rows-front, rows-size}
+
+-- the tokens are exact, and the rows are not too many
+pub goes-further : (exact : Bool) (m : ℕ) → (not exact || ltb 4096 m) ≡ false → (exact ≡ true) × (m ≤ 4096)
+goes-further true m e = (refl, ltb-false 4096 m e)
+goes-further false m e = absurd (false≢true (sym e))
 
 -- m rows came, and those from here on are left
 pub record Judging (w : ℕ) (f : IndexForm) (d : Declared) (rows : Option (List (Deep FlatRow))) (s : List ℕ) (live : ℕ) (opened : Bytes) (depth : ℕ) (tag : Bool) (m : ℕ) (t : Bytes) : Type 0 where
@@ -54,23 +65,78 @@ judging-start w f form txt opened h =
 
 module _ {w : ℕ} {f : IndexForm} {d : Declared} {rows : Option (List (Deep FlatRow))} {s : List ℕ} {live : ℕ} {opened : Bytes} {depth : ℕ} {tag : Bool} {m : ℕ} {t : Bytes}
     (p : Judging w f d rows s live opened depth tag m t) where
-  module _ {fits : Bool} {size m′ : ℕ} {s′ : List ℕ} {live′ : ℕ} {opened′ : Bytes} {depth′ : ℕ} {tag′ : Bool}
-      (q : TokenStep w f d t m s live opened depth tag fits size m′ s′ live′ opened′ depth′ tag′) where
-    pub judging-refused : fits ≡ false → {b : Bool} {k : ℕ} → b ≡ false → Judges w f rows b k
-    judging-refused e g = record { is = g ∙ sym (p .is ∙ q .refuses e); counts = λ x. absurd (false≢true (sym g ∙ x)) }
+  -- some rows were put into an array, or a token is not exact
+  module _ {limit : ℕ} {out : Bytes} {exact : Bool} {size m′ : ℕ} {opened′ : Bytes} {depth′ : ℕ} {tag′ : Bool} {out′ : Bytes} {at′ : ℕ}
+      (q : SomePut w d t m opened depth tag limit out 0 exact size m′ opened′ depth′ tag′ out′ at′) where
+    pub judging-inexact : exact ≡ false → {b : Bool} {k : ℕ} → b ≡ false → Judges w f rows b k
+    judging-inexact e g = record { is = g ∙ sym (p .is ∙ ap (fitFrom w f m (stateOf s live)) (q .refuses e)); counts = λ x. absurd (false≢true (sym g ∙ x)) }
 
-    pub judging-on : {t′ : Bytes} → fits ≡ true → t′ ≡ drop size t → Judging w f d rows s′ live′ opened′ depth′ tag′ m′ t′
-    judging-on e g =
-        rw g
-        (record {
-          is = p .is ∙ q .goes e;
-          counts = λ x. p .counts (q .goes e ∙ x) ∙ q .counts e x;
-          few = q .few;
-          long = q .long;
-          low = q .low;
-          stack = q .stack;
-          deep = q .deep;
-        })
+    module _ (e : exact ≡ true) where
+      abbrev taken : Taken w d t m opened depth tag out 0 size m′ opened′ depth′ tag′ out′ at′
+      taken = q .takes e
+
+      abbrev left : Option (List (Deep FlatRow))
+      left = rowsHere w d m′ opened′ depth′ tag′ (drop size t)
+
+      -- the verdict on them
+      fit-is : {b : Bool} → fitFrom w f m (stateOf s live) (withRows (taken .made) left) ≡ b → rowsFit w f rows ≡ b
+      fit-is h = p .is ∙ ap (fitFrom w f m (stateOf s live)) (taken .rows) ∙ h
+
+      pub judging-many : 4096 < m′ → {b : Bool} {k : ℕ} → b ≡ false → Judges w f rows b k
+      judging-many h g =
+          record {
+            is = g ∙ sym (fit-is (fit-many w f m (stateOf s live) (taken .made) left (omega (arith, taken .counted))));
+            counts = λ x. absurd (false≢true (sym g ∙ x));
+          }
+
+      -- the bytes of the rows that were put, where there is room for them
+      pub batch-room : limit ≤ m + 16 → at′ ≤ 4272
+      batch-room h = omega (arith, taken .put .small, taken .counted, q .ceiling e)
+
+      pub batch-whole : at′ ≤ length out → at′ ≡ length (take at′ out′)
+      batch-whole room = sym (length-take-le at′ out′ (omega (arith, laid-long (taken .put .laid))))
+
+      pub batch-size : {k : ℕ} → k ≡ m′ - m → at′ ≤ length out → rowSize w * k ≤ length (take at′ out′)
+      batch-size {k} h room =
+          let many : k ≡ length (taken .made) = omega (arith, taken .counted) in
+          omega (arith, rows-size (taken .put) room, ap (λ (n : ℕ). rowSize w * n) many)
+
+      pub batch-steps : {k : ℕ} → k ≡ m′ - m → at′ ≤ length out → {bs : Bytes} → bs ≡ take at′ out′ → {answer : Bool} {s′ : List ℕ} {live′ : ℕ} → StepsMade w f s live k bs answer s′ live′
+          → StepsMade w f s live (length (taken .made)) (each (rowBytes w) (taken .made)) answer s′ live′
+      batch-steps {k} h room {bs} g {answer} {s′} {live′} made =
+          let many : k ≡ length (taken .made) = omega (arith, taken .counted) in
+          subst (λ (u : Bytes). StepsMade w f s live (length (taken .made)) u answer s′ live′) (g ∙ rows-front (taken .put) room)
+          (subst (λ (n : ℕ). StepsMade w f s live n bs answer s′ live′) many made)
+
+      module _ {answer : Bool} {s′ : List ℕ} {live′ : ℕ} (made : StepsMade w f s live (length (taken .made)) (each (rowBytes w) (taken .made)) answer s′ live′) where
+        pub judging-refused : answer ≡ false → {b : Bool} {k : ℕ} → b ≡ false → Judges w f rows b k
+        judging-refused h g = record { is = g ∙ sym (fit-is (fit-refused w f (taken .made) made m left h)); counts = λ x. absurd (false≢true (sym g ∙ x)) }
+
+        pub judging-on : {t′ : Bytes} → answer ≡ true → m′ ≤ 4096 → length opened′ ≡ 256 → t′ ≡ drop size t → Judging w f d rows s′ live′ opened′ depth′ tag′ m′ t′
+        judging-on h few stack g =
+            let goes : fitFrom w f m (stateOf s live) (rowsHere w d m opened depth tag t) ≡ fitFrom w f m′ (stateOf s′ live′) left =
+            ap (fitFrom w f m (stateOf s live)) (taken .rows) ∙ fit-taken w f (taken .made) made m left h ∙ ap (λ (k : ℕ). fitFrom w f k (stateOf s′ live′) left) (taken .counted) in
+            rw g
+            (record {
+              is = p .is ∙ goes;
+              counts = λ x.
+                  p .counts (goes ∙ x)
+                  ∙ ap (λ (o : Option (List (Deep FlatRow))). m + length (rowsOr o)) (taken .rows)
+                  ∙ more-rows w f (taken .made) m′ m (stateOf s′ live′) left x
+                  ∙ ap (λ (k : ℕ). k + length (rowsOr left)) (taken .counted);
+              few = few;
+              long = made .long;
+              low = made .low;
+              stack = stack;
+              deep = taken .deep;
+            })
+
+    pub judging-over : (not exact || ltb 4096 m′) ≡ true → {b : Bool} {k : ℕ} → b ≡ false → Judges w f rows b k
+    judging-over h {b} {k} g = by exact refl h
+      where
+        by : (x : Bool) → exact ≡ x → (not x || ltb 4096 m′) ≡ true → Judges w f rows b k
+        by true e y = judging-many e (ltb-true 4096 m′ y) g
+        by false e y = judging-inexact e g
 
   none-left : (l : List ℕ) → length (rowsOr (elim (isNone l) [ true ↦ some [] | false ↦ none ])) ≡ 0
   none-left [] = refl

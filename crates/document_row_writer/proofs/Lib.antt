@@ -1,1 +1,4 @@
+pub mod RowLaws
+pub mod AfterLaws
+pub mod StackLaws
 pub mod PutLaws

@@ -1,16 +1,38 @@
 //! The rows that the documents of a text say, written.
 ghost use mathlib.Core.Path.{_≡_};
-ghost use mathlib.Core.Bool.{true};
+ghost use mathlib.Core.Bool.{true, false};
 ghost use Prim.Native.Nat.{_<_, _≤_};
 ghost use lib.ListN.{length};
 ghost use Rattle.rules.specs.Layout.{rowBytes, each};
-ghost use Rattle.rules.specs.WellFormed.{isThere};
-ghost use Rattle.rules.specs.Decode.{definitionCount, attributeCount};
 ghost use Rattle.codec.specs.Laid.{Laid};
 ghost use Rattle.layout.specs.Bodies.{Width};
 ghost use Rattle.document_tokens.specs.Tokens.{declaredIn};
-ghost use Rattle.document_reading.specs.Judging.{documentsIn, rowsOr, rowsHere, madeRow};
-ghost use Rattle.document_row_writer.specs.Putting.{RowsRead, RowsPut, TokenPut};
+ghost use Rattle.document_tokens.specs.Telling.{FormRoom};
+ghost use Rattle.document_row_writer.specs.Putting.{documentsIn, rowsOr, RowsRead, madeRow, madeCount, Advanced, RowsPut, Kept, TokenPut, SomePut};
+
+// ---- what a token does
+
+// How many rows a token of this sort makes.
+fn made(sort: u8) -> usize
+    ensures { λ r. ⌜ r ≡ madeCount sort ⌝ }
+{
+    if sort == 0 { 0 } else { 1 }
+}
+
+// The definitions that are opened after a token; how many they are is handed back.
+fn advance(opened: &mut [u8; 256], depth: usize, tag: bool, sort: u8, index: usize) -> usize
+    requires { ⌜ (length (now opened) ≡ 256) × (depth ≤ 255) × (index < 256) × (sort ≡ 1 → depth < 255) ⌝ }
+    ensures { λ r. ⌜ Advanced tag (now (opened .entry)) depth sort index r (now (opened .exit)) ⌝ }
+{
+    if sort == 1 {
+        opened[depth] = index as u8;
+        return depth + 1;
+    }
+    if (sort == 0) & !tag {
+        return layout::minus(depth, 1);
+    }
+    depth
+}
 
 // Writes the row that a token makes, if it makes one.
 fn put_made(
@@ -23,7 +45,7 @@ fn put_made(
     out: &mut [u8],
     at: usize,
 ) -> usize
-    requires { ⌜ Width w × (at < 4611686018428481536) × (depth < 256) × (index < 65536) × (length (now value) ≤ w) ⌝ }
+    requires { ⌜ Width w × (at < 4611686018429575168) × (depth < 256) × (index < 65536) × (length (now value) ≤ w) ⌝ }
     ensures { λ r. ⌜ RowsPut w (madeRow sort depth index serial (now (value .entry))) (now (out .entry)) at r (now (out .exit)) ⌝ }
 {
     if sort == 0 {
@@ -32,14 +54,39 @@ fn put_made(
     layout_row_writer::put_row(w, sort, depth, index, serial, value, out, at)
 }
 
-// After a token: where the next row goes, how long it is, what is opened, whether a start tag is not ended, how many
-// rows came.
-struct Written {
-    at: usize,
-    size: usize,
-    depth: usize,
-    tag: bool,
-    count: usize,
+// ---- rows, token by token
+
+/// Where documents go on: how many definitions are opened, whether a start tag is not ended, how many rows came before.
+pub struct Place {
+    pub depth: usize,
+    pub tag: bool,
+    pub count: usize,
+}
+
+/// What was read and written: whether every token is exact, how many bytes they are, where the documents go on, and
+/// where the next row is written.
+pub struct Written {
+    pub exact: bool,
+    pub size: usize,
+    pub place: Place,
+    pub at: usize,
+}
+
+// Nothing, since a token is not exact.
+fn inexact() -> Written
+    ensures { λ r. ⌜ r .exact ≡ false ⌝ }
+{
+    let place = Place {
+        depth: 0,
+        tag: false,
+        count: 0,
+    };
+    Written {
+        exact: false,
+        size: 0,
+        place,
+        at: 0,
+    }
 }
 
 // Reads the token at the front of a text, its value into `value`, and writes its row.
@@ -47,65 +94,93 @@ fn put_token(
     w: usize,
     form: &[u8],
     opened: &mut [u8; 256],
-    depth: usize,
-    tag: bool,
-    count: usize,
+    place: Place,
     text: &[u8],
     value: &mut [u8],
     out: &mut [u8],
     at: usize,
 ) -> Written
-    requires { ⌜ Width w × (definitionCount (now form) ≤ 64) × (attributeCount (now form) ≤ 64) × (length (now opened) ≡ 256) × (depth ≤ 255) × (count ≤ 4096) × (0 < length (now text))
-        × (isThere (rowsHere w (declaredIn (now form)) count (now opened) depth tag (now text)) ≡ true) × (at < 4611686018428481536) × (w ≤ length (now value)) ⌝ }
-    ensures { λ r. ⌜ TokenPut w (declaredIn (now (form .entry))) (now (text .entry)) count (now (opened .entry)) depth tag (now (out .entry)) at
-        (r .size) (r .count) (now (opened .exit)) (r .depth) (r .tag) (now (out .exit)) (r .at)
-        × (length (now (value .exit)) ≡ length (now (value .entry))) ⌝ }
+    requires { ⌜ Width w × FormRoom (now form) × (length (now opened) ≡ 256) × (place .depth ≤ 255) × (place .count ≤ 8192) × (0 < length (now text))
+        × (w ≤ length (now value)) × (at < 4611686018429575168) ⌝ }
+    ensures { λ r. ⌜ TokenPut w (declaredIn (now (form .entry))) (now (text .entry)) (place .count) (now (opened .entry)) (place .depth) (place .tag) (now (out .entry)) at
+        (r .exact) (r .size) (r .place .count) (now (opened .exit)) (r .place .depth) (r .place .tag) (now (out .exit)) (r .at)
+        × Kept (now (opened .entry)) (now (value .entry)) (now (out .entry)) (now (opened .exit)) (now (value .exit)) (now (out .exit)) ⌝ }
 {
+    let depth = place.depth;
+    let tag = place.tag;
+    let count = place.count;
     let token = document_tokens::token_at(w, form, text, opened, depth, tag, value);
+    if !token.exact {
+        return inexact();
+    }
     let sort = token.sort;
     let index = token.index;
     let read = codec::first(value, token.length);
     let next = put_made(w, sort, depth, index, count + 1, read, out, at);
-    Written {
-        at: next,
-        size: token.size,
-        depth: document_reading::advance(opened, depth, tag, sort, index),
+    let place = Place {
+        depth: advance(opened, depth, tag, sort, index),
         tag: (sort == 1) | (sort == 2),
-        count: count + document_reading::made(sort),
+        count: count + made(sort),
+    };
+    Written {
+        exact: true,
+        size: token.size,
+        place,
+        at: next,
     }
 }
 
-/// Writes the rows of the documents of a text that `document_reading::judge_documents` found to fit.
+/// Reads the documents of a text from a place on up to row `limit`, each value into `value`, and writes their rows.
+pub fn put_rows(
+    w: usize,
+    form: &[u8],
+    opened: &mut [u8; 256],
+    place: Place,
+    limit: usize,
+    text: &[u8],
+    value: &mut [u8],
+    out: &mut [u8],
+    at: usize,
+) -> Written
+    requires { ⌜ Width w × FormRoom (now form) × (length (now opened) ≡ 256) × (place .depth ≤ 255) × (place .count < limit) × (limit ≤ 8192)
+        × (w ≤ length (now value)) × (at < 4611686018427387904) ⌝ }
+    ensures { λ r. ⌜ SomePut w (declaredIn (now (form .entry))) (now (text .entry)) (place .count) (now (opened .entry)) (place .depth) (place .tag) limit (now (out .entry)) at
+        (r .exact) (r .size) (r .place .count) (now (opened .exit)) (r .place .depth) (r .place .tag) (now (out .exit)) (r .at)
+        × Kept (now (opened .entry)) (now (value .entry)) (now (out .entry)) (now (opened .exit)) (now (value .exit)) (now (out .exit)) ⌝ }
+{
+    let mut here = place;
+    let mut next = at;
+    let mut size = 0;
+    while (size < text.len()) & (here.count < limit) {
+        let t = codec::after(text, size);
+        let put = put_token(w, form, opened, here, t, value, out, next);
+        if !put.exact {
+            return inexact();
+        }
+        here = put.place;
+        next = put.at;
+        size += put.size;
+    }
+    Written {
+        exact: true,
+        size,
+        place: here,
+        at: next,
+    }
+}
+
+/// Writes the rows of the documents of a text, of which all tokens are exact.
 pub fn put_documents(w: usize, form: &[u8], text: &[u8], out: &mut [u8], at: usize) -> usize
-    requires { ⌜ Width w × (definitionCount (now form) ≤ 64) × (attributeCount (now form) ≤ 64) × RowsRead w (now form) (now text) × (at < 4611686018427387904) ⌝ }
+    requires { ⌜ Width w × FormRoom (now form) × RowsRead w (now form) (now text) × (at < 4611686018427387904) ⌝ }
     ensures { λ r. ⌜ Laid (each (rowBytes w) (rowsOr (documentsIn w (now (form .entry)) (now (text .entry))))) (now (out .entry)) at r (now (out .exit)) ⌝ }
 {
     let mut opened = [0; 256];
-    let mut depth = 0;
-    let mut tag = false;
-    let mut count = 0;
-    let mut next = at;
     let mut value = [0; 256];
-    let mut t = text;
-    while 0 < t.len() {
-        let put = put_token(
-            w,
-            form,
-            &mut opened,
-            depth,
-            tag,
-            count,
-            t,
-            &mut value,
-            out,
-            next,
-        );
-        depth = put.depth;
-        tag = put.tag;
-        count = put.count;
-        next = put.at;
-        let rest = codec::after(t, put.size);
-        t = rest;
-    }
-    next
+    let place = Place {
+        depth: 0,
+        tag: false,
+        count: 0,
+    };
+    let put = put_rows(w, form, &mut opened, place, 4097, text, &mut value, out, at);
+    put.at
 }

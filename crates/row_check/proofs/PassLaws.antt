@@ -25,14 +25,9 @@ use Rattle.row_step.specs.Steps.{State, noLevels, startState, mayStep, stepped,
 use Rattle.row_check.proofs.MachineLaws.{Within}
 use Rattle.row_check.proofs.JudgeLaws.{documents-judged}
 use Rattle.row_step.proofs.LevelLaws.{none-yet}
-use Rattle.row_check.proofs.WalkLaws.{verdict-walk}
+use Rattle.row_check.proofs.WalkLaws.{walk-none, verdict-walk}
 
 -- ---- the loop of the steps
-walk-none : (w : ℕ) (f : IndexForm) (count : ℕ) (bs : Bytes) → walk w f count bs none ≡ none
-unfolding walk
-walk-none w f zero bs = refl
-walk-none w f (suc count) bs = walk-none w f count (drop (rowSize w) bs)
-
 -- the walk over the rows that are left, from the state reached, is the whole walk; there is a level for each depth, and
 -- room for the rows that are left
 pub record StepsLeft (w : ℕ) (f : IndexForm) (goal : Option State) (s : List ℕ) (live : ℕ) (t : Bytes) (m : ℕ) : Type 0 where

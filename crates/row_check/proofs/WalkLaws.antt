@@ -46,10 +46,11 @@ module _ (w : ℕ) (f : IndexForm) where
   unfolding machine eachFits end
   from-none s bs = refl
 
-  walk-refused : (count : ℕ) (bs : Bytes) → stateEnds f (walk w f count bs none) ≡ false
+  -- a refusal stays
+  pub walk-none : (count : ℕ) (bs : Bytes) → walk w f count bs none ≡ none
   unfolding walk
-  walk-refused zero bs = refl
-  walk-refused (suc count) bs = walk-refused count (drop (rowSize w) bs)
+  walk-none zero bs = refl
+  walk-none (suc count) bs = walk-none count (drop (rowSize w) bs)
 
   -- the rows from a state on: a fold of steps, and the end
   pub judged-walk : (count : ℕ) (bs : Bytes) (s : State) → judged w f (s .levels) (s .live) count bs ≡ stateEnds f (walk w f count bs (some s))
@@ -62,7 +63,7 @@ module _ (w : ℕ) (f : IndexForm) where
           → (b && from (stepped f s (take (rowSize w) bs)) count (drop (rowSize w) bs))
           ≡ stateEnds f (walk w f count (drop (rowSize w) bs) (elim b [ true ↦ some (stepped f s (take (rowSize w) bs)) | false ↦ none ]))
       by true e h = h
-      by false e h = sym (walk-refused count (drop (rowSize w) bs))
+      by false e h = ap (stateEnds f) (sym (walk-none count (drop (rowSize w) bs)))
 
   -- THE VERDICT is the fold of the steps from the start, and the end
   pub verdict-walk : (count : ℕ) (bs : Bytes) → verdict w f count bs ≡ stateEnds f (walk w f count bs (some startState))

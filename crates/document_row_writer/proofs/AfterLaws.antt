@@ -18,8 +18,8 @@ use Rattle.document_tokens.specs.Telling.{stackOf, TokenTold}
 use Rattle.document_tokens.proofs.FormLaws.{definitions-many, attributes-many}
 use Rattle.document_tokens.proofs.TokenLaws.{TokenFits}
 use Rattle.document_tokens.proofs.ChoiceLaws.{stack-size}
-use Rattle.document_reading.specs.Judging.{madeRow, madeCount, rowsHere, openBy, Advanced}
-use Rattle.document_reading.proofs.RowLaws.{rowsAfter, rows-refused, rows-on}
+use Rattle.document_row_writer.specs.Putting.{madeRow, madeCount, rowsHere, openBy, Advanced}
+use Rattle.document_row_writer.proofs.RowLaws.{rowsAfter, rows-refused, rows-on}
 
 -- ---- how many rows a token makes
 pub made-many : (sort depth index serial : ℕ) (v : Bytes) → length (madeRow sort depth index serial v) ≡ madeCount sort

@@ -1,25 +1,17 @@
--- What a token does: the definitions that are opened after it, and the bytes of its row.
+-- What a token does: how many rows it makes, and the definitions that are opened after it.
 use mathlib.Core.Path.{_≡_, refl, sym, ap, ap₂, _∙_}
 use mathlib.Core.Bool.{Bool, true, false, _&&_, not, false≢true}
 use mathlib.Core.List.{List, _∷_}
 use Prim.Native.Nat.{ℕ, zero, suc, _+_, _-_, _<_, _≤_}
 use native.Mathlib.Omega.{arith}
-use native.Mathlib.Nat.{zero-add}
 use native.Mathlib.Numerals.{add-one, sub-one}
 use borrow.Author.Tests.{eq-eqb, ne-eqb}
 use lib.Dec.{eqb}
-use lib.ListN.{length, take, drop, set, length-set}
-use lib.Seq.{sets-eq, length-take-le, take-append-seam, getD-set-same, getD-set-other}
+use lib.ListN.{length, drop, set, length-set}
+use lib.Seq.{getD-set-same, getD-set-other}
 use Rattle.rules.specs.Bytes.{Bytes}
-use Rattle.rules.specs.Preorder.{Deep}
-use Rattle.rules.specs.Layout.{FlatRow, rowSize, rowBytes}
-use Rattle.rules.proofs.LayoutLaws.{length-row}
-use Rattle.codec.proofs.Writers.{laid-long}
-use Rattle.layout.specs.RowBytes.{RowLaid}
-use Rattle.form_index.specs.Indices.{IndexForm}
-use Rattle.row_step.specs.Steps.{StepMade}
 use Rattle.document_tokens.specs.Telling.{stackOf}
-use Rattle.document_reading.specs.Judging.{openBy, madeCount, Advanced}
+use Rattle.document_row_writer.specs.Putting.{openBy, madeCount, Advanced}
 
 -- ---- how many rows
 pub made-none : {sort : ℕ} → sort ≡ 0 → 0 ≡ madeCount sort
@@ -63,17 +55,3 @@ module _ (tag : Bool) (a : Bytes) (depth sort index : ℕ) (long : length a ≡ 
         by true true b = refl
         by true false b = absurd (false≢true (sym b))
         by false t b = refl
-
--- ---- the bytes of a row, at the front of a buffer with room for it
-pub row-front : {w : ℕ} {x : Deep FlatRow} {out : Bytes} {r : ℕ} {out′ : Bytes} → rowSize w ≤ length out → RowLaid w x out 0 r out′ → take r out′ ≡ rowBytes w x
-row-front {w} {x} {out} {r} {out′} h p =
-    let size : r ≡ length (rowBytes w x) = p .next ∙ zero-add (rowSize w) ∙ sym (length-row w x) in
-    let room : 0 + length (rowBytes w x) ≤ length out = omega (arith, length-row w x) in
-    ap₂ (λ (k : ℕ) (s : Bytes). take k s) size (p .laid .stored ∙ sets-eq (rowBytes w x) out 0 room) ∙ take-append-seam (rowBytes w x) (drop (0 + length (rowBytes w x)) out)
-
-pub step-as : {w : ℕ} {f : IndexForm} {s : List ℕ} {live : ℕ} {row row′ : Bytes} {answer : Bool} {s′ : List ℕ} {live′ : ℕ} → row ≡ row′ → StepMade w f s live row answer s′ live′
-    → StepMade w f s live row′ answer s′ live′
-step-as e p = rw e at p
-
-pub row-room : {w : ℕ} {x : Deep FlatRow} {out : Bytes} {r : ℕ} {out′ : Bytes} → rowSize w ≤ length out → RowLaid w x out 0 r out′ → r ≡ length (take r out′)
-row-room {w} {x} {out} {r} {out′} h p = sym (length-take-le r out′ (omega (arith, p .next, laid-long (p .laid))))

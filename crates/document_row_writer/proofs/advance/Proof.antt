@@ -1,9 +1,9 @@
--- `document_reading::advance` meets its contract: an element opens its definition, an end tag closes the innermost, any
+-- `document_row_writer::advance` meets its contract: an element opens its definition, an end tag closes the innermost, any
 -- other token leaves them (`opens`, `closes`, `stays` of StackLaws).
-use Rattle.document_reading.proofs.StackLaws.{opens, closes, stays}
+use Rattle.document_row_writer.proofs.StackLaws.{opens, closes, stays}
 use borrow.Author.Needs.{needs}
-use Rattle.document_reading.proofs.advance.Statement.{statement}
-use Rattle.document_reading.proofs.advance.Tie as tie
+use Rattle.document_row_writer.proofs.advance.Statement.{statement}
+use Rattle.document_row_writer.proofs.advance.Tie as tie
 
 cast-opened : tie.Need-cast-opened
 cast-opened c = search needs

@@ -1,13 +1,21 @@
--- A reserved name, by its first three bytes.
-use Prim.Native.Nat.{_<_, _≤_}
+-- Bytes of names; a reserved name, by its first three bytes.
+use Prim.Native.Nat.{ℕ, _<_, _≤_}
 use native.Mathlib.Omega.{arith}
 use mathlib.Core.Path.{_≡_, refl}
-use mathlib.Core.Bool.{false, _&&_, _||_}
+use mathlib.Core.Bool.{Bool, true, false, _&&_, _||_}
 use mathlib.Core.List.{[], _∷_}
-use lib.Dec.{eqb}
+use lib.Dec.{eqb, leb}
 use lib.ListN.{length, getD}
-use Rattle.rules.specs.Bytes.{Bytes}
-use Rattle.rules.specs.WellFormed.{reservedName}
+use Rattle.rules.specs.Bytes.{Bytes, between}
+use Rattle.rules.specs.WellFormed.{inName, reservedName}
+
+-- a small letter may stand in a name
+pub small-in-name : (x : ℕ) → (leb 97 x && leb x 122) ≡ true → true ≡ inName x
+small-in-name x h = rw h (by (between 65 90 x))
+  where
+    by : (capital : Bool) → true ≡ ((capital || true || eqb x 95) || between 48 57 x || eqb x 45 || eqb x 46)
+    by true = refl
+    by false = refl
 
 -- fewer than three bytes are not reserved
 pub reserved-few : (s : Bytes) → length s < 3 → reservedName s ≡ false

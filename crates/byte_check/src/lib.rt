@@ -61,9 +61,14 @@ pub fn starts_name(x: u8) -> bool
     ((b'A' <= x) & (x <= b'Z')) | ((b'a' <= x) & (x <= b'z')) | (x == b'_')
 }
 
-fn in_name(x: u8) -> bool
+/// Whether a byte may stand in a name.
+pub fn in_name(x: u8) -> bool
     ensures { λ r. ⌜ r ≡ inName x ⌝ }
 {
+    // Most bytes of names are small letters: they are asked for first.
+    if (b'a' <= x) & (x <= b'z') {
+        return true;
+    }
     starts_name(x) | ((b'0' <= x) & (x <= b'9')) | (x == b'-') | (x == b'.')
 }
 

@@ -5,21 +5,10 @@ ghost use mathlib.Core.List.{[]};
 ghost use Prim.Native.Nat.{suc, _+_, _*_, _%_, _<_, _≤_};
 ghost use lib.ListN.{length};
 ghost use Rattle.rules.specs.Layout.{each, particleBytes, particleSize};
-ghost use Rattle.rules.specs.WellFormed.{inName};
 ghost use Rattle.codec.specs.Laid.{Laid};
 ghost use Rattle.declaration_scan.specs.Declared.{elementHere, groupHere, modelFrom, modelOfContent};
 ghost use Rattle.declaration_scan.specs.Names.{writtenNames};
 ghost use Rattle.model_scan.specs.Scanning.{depthAfter, kindAfter, countOn, Groups, startsHere, shallow, Measures, startingHere};
-
-// Whether a byte may stand in a name.
-fn in_name(x: u8) -> bool
-    ensures { λ r. ⌜ r ≡ inName x ⌝ }
-{
-    (((b'A' <= x) & (x <= b'Z')) | ((b'a' <= x) & (x <= b'z')) | (x == b'_'))
-        | ((b'0' <= x) & (x <= b'9'))
-        | (x == b'-')
-        | (x == b'.')
-}
 
 // How deep the byte after x stands.
 fn depth_after(x: u8, depth: usize) -> usize
@@ -99,7 +88,7 @@ fn grouped_at(text: &[u8]) -> Group
 fn starts_here(x: u8, inside: bool) -> bool
     ensures { λ r. ⌜ r ≡ startsHere x inside ⌝ }
 {
-    (x == 40) | (in_name(x) & !inside)
+    (x == 40) | (byte_check::in_name(x) & !inside)
 }
 
 /// How many particles a content model has, and whether none is too deep.
@@ -123,7 +112,7 @@ fn measure_model(text: &[u8]) -> Measured
         count = counted(starts, count);
         shallow = shallow & (!starts | (depth <= 4));
         depth = depth_after(x, depth);
-        inside = in_name(x);
+        inside = byte_check::in_name(x);
         i += 1;
     }
     Measured { count, shallow }
@@ -186,7 +175,7 @@ fn put_model(defs: &[u8], n: usize, text: &[u8], out: &mut [u8], start: usize) -
         at = put_here(defs, n, codec::after(text, i), inside, depth, out, at);
         let x = text[i];
         depth = depth_after(x, depth);
-        inside = in_name(x);
+        inside = byte_check::in_name(x);
         i += 1;
     }
     at

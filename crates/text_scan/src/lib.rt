@@ -7,21 +7,13 @@ ghost use Prim.Native.Nat.{ℕ, _+_, _<_};
 ghost use Rattle.rules.specs.WellFormed.{inName};
 ghost use Rattle.text_scan.specs.Scan.{frontWhile, startsWith, escapedAt, plainAt, StandsFor, Unescapes};
 
-// Whether a byte may stand in a name.
-fn in_name(x: u8) -> bool
-    ensures { λ r. ⌜ r ≡ inName x ⌝ }
-{
-    let letter = ((b'A' <= x) & (x <= b'Z')) | ((b'a' <= x) & (x <= b'z'));
-    (letter | (x == b'_')) | ((b'0' <= x) & (x <= b'9')) | (x == b'-') | (x == b'.')
-}
-
 /// How many bytes of names the text begins with.
 pub fn name_length(text: &[u8]) -> usize
     ensures { λ r. ⌜ r ≡ length (frontWhile inName (now (text .entry))) ⌝ }
 {
     let mut i = 0;
     while i < text.len() {
-        if !in_name(text[i]) {
+        if !byte_check::in_name(text[i]) {
             return i;
         }
         i += 1;

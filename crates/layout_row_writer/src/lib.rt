@@ -1,8 +1,9 @@
 //! The row of a store, written: as far as the buffer goes, saying where the next bytes go.
-ghost use mathlib.Core.List.{_++_};
+ghost use mathlib.Core.Path.{_≡_};
+ghost use mathlib.Core.List.{[], _∷_, _++_};
 ghost use Prim.Native.Nat.{_+_, _<_, _≤_, _^_};
 ghost use lib.ListN.{length, take, replicate};
-ghost use Rattle.rules.specs.Layout.{rowSize, le};
+ghost use Rattle.rules.specs.Layout.{rowSize, rowBytes, le};
 ghost use Rattle.codec.specs.Laid.{Laid};
 ghost use Rattle.layout.specs.Bodies.{Width};
 ghost use Rattle.layout.specs.RowBytes.{rowOf, rowStart, rowEnd, reindexedRow, valuedRow, WholeRow, RowLaid};
@@ -45,7 +46,35 @@ fn put_row_end(w: usize, value: &[u8], out: &mut [u8], at: usize) -> usize
     put_zeros(2 + w - n, out, c)
 }
 
+// The bytes of a row before its value, over the front of a buffer.
+fn lay_head(sort: u8, depth: u8, index: usize, serial: usize, n: u8, row: &mut [u8])
+    requires { ⌜ 10 ≤ length (now row) ⌝ }
+    ensures { λ _. ⌜ Laid (rowStart sort depth index serial ++ (n ∷ 0 ∷ [])) (now (row .entry)) 0 10 (now (row .exit)) ⌝ }
+{
+    row[0] = sort;
+    row[1] = depth;
+    row[2] = (index % 256) as u8;
+    row[3] = (index / 256 % 256) as u8;
+    row[4] = (serial % 256) as u8;
+    row[5] = (serial / 256 % 256) as u8;
+    row[6] = (serial / 256 / 256 % 256) as u8;
+    row[7] = (serial / 256 / 256 / 256 % 256) as u8;
+    row[8] = n;
+    row[9] = 0;
+}
+
+// Writes a row over a buffer of just its size.
+fn lay_row(w: usize, sort: u8, depth: u8, index: usize, serial: usize, value: &[u8], row: &mut [u8])
+    requires { ⌜ Width w × (length (now row) ≡ rowSize w) × (length (now value) ≤ w) ⌝ }
+    ensures { λ _. ⌜ now (row .exit) ≡ rowBytes w (rowOf sort depth index serial (now (value .entry))) ⌝ }
+{
+    lay_head(sort, depth, index, serial, value.len() as u8, row);
+    put_zeros(2 + w, row, 10);
+    byte_copy::copy(value, &mut row[10..]);
+}
+
 /// Writes a row.
+// Where all of it has room, no store asks for the buffer's length.
 pub fn put_row(
     w: usize,
     sort: u8,
@@ -59,6 +88,19 @@ pub fn put_row(
     requires { ⌜ Width w × (at + rowSize w < 9223372036854775808) × (depth < 256) × (index < 65536) × (length (now value) ≤ w) ⌝ }
     ensures { λ r. ⌜ RowLaid w (rowOf sort depth index serial (now (value .entry))) (now (out .entry)) at r (now (out .exit)) ⌝ }
 {
+    let end = at + 12 + w;
+    if end <= out.len() {
+        lay_row(
+            w,
+            sort,
+            depth as u8,
+            index,
+            serial,
+            value,
+            &mut out[at..end],
+        );
+        return end;
+    }
     let next = put_row_start(sort, depth as u8, index as u32, serial, out, at);
     put_row_end(w, value, out, next)
 }

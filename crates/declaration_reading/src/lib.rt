@@ -2,7 +2,7 @@
 ghost use mathlib.Core.Path.{_≡_};
 ghost use mathlib.Core.Bool.{true, _&&_};
 ghost use mathlib.Core.List.{[], _∷_};
-ghost use Prim.Native.Nat.{_+_, _<_, _≤_};
+ghost use Prim.Native.Nat.{_+_, _*_, _<_, _≤_};
 ghost use lib.Dec.{leb};
 ghost use lib.ListN.{length};
 ghost use Rattle.rules.specs.WellFormed.{withinCeilings};
@@ -135,7 +135,7 @@ fn put_definitions(text: &[u8], out: &mut [u8], start: usize) -> usize
 
 // Writes the particles of the definition that a line declares, over n definitions.
 fn put_particle_line(defs: &[u8], n: usize, line: &[u8], out: &mut [u8], at: usize) -> usize
-    requires { ⌜ (n ≤ 64) × (shallow (particlesOfLines (writtenNames n (now defs)) (now line ∷ [])) ≡ true)
+    requires { ⌜ (n ≤ 64) × (20 * n ≤ length (now defs)) × (shallow (particlesOfLines (writtenNames n (now defs)) (now line ∷ [])) ≡ true)
         × (at + length (saidParticles (writtenNames n (now defs)) (now line ∷ [])) < 1152921504606846976) ⌝ }
     ensures { λ r. ⌜ Laid (saidParticles (writtenNames n (now (defs .entry))) (now (line .entry) ∷ [])) (now (out .entry)) at r (now (out .exit)) ⌝ }
 {
@@ -147,7 +147,7 @@ fn put_particle_line(defs: &[u8], n: usize, line: &[u8], out: &mut [u8], at: usi
 
 // Writes the particles that the declarations say, over n definitions.
 fn put_particles(defs: &[u8], n: usize, text: &[u8], out: &mut [u8], start: usize) -> usize
-    requires { ⌜ (n ≤ 64) × (shallow (particlesOfLines (writtenNames n (now defs)) (declarations (now text))) ≡ true)
+    requires { ⌜ (n ≤ 64) × (20 * n ≤ length (now defs)) × (shallow (particlesOfLines (writtenNames n (now defs)) (declarations (now text))) ≡ true)
         × (start + length (saidParticles (writtenNames n (now defs)) (declarations (now text))) < 1152921504606846976) ⌝ }
     ensures { λ r. ⌜ Laid (saidParticles (writtenNames n (now (defs .entry))) (declarations (now (text .entry)))) (now (out .entry)) start r (now (out .exit)) ⌝ }
 {

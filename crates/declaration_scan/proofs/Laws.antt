@@ -1,20 +1,16 @@
 -- Marks, names and kinds as the code reads them.
-use Prim.Native.Nat.{ℕ, _+_, _<_, _≤_, suc}
+use Prim.Native.Nat.{ℕ, suc, _+_, _-_, _*_, _<_, _≤_}
 use mathlib.Core.Path.{_≡_, sym, ap, _∙_}
 use mathlib.Core.Bool.{Bool, true, false}
 use borrow.Author.Tests.{eq-eqb, ne-eqb}
-use mathlib.Core.List.{List, _∷_, map}
 use native.Mathlib.Omega.{arith}
 use native.Mathlib.Nat.{add-zero, zero-add}
 use lib.Dec.{eqb}
-use lib.ListN.{length, take, drop, length-take}
+use lib.ListN.{length, take, drop, length-take, length-drop}
 use Rattle.rules.specs.Bytes.{Bytes, same, ascii}
 use Rattle.rules.specs.WellFormed.{inName}
-use Rattle.rules.specs.Layout.{definitionSize, FlatDefinition}
-use Rattle.rules.specs.Decode.{readDefinition, flatName}
-use Rattle.layout.specs.Bodies.{recordAt}
-use Rattle.lookup.specs.Bodies.{recordsFrom}
-use Rattle.lookup.proofs.Laws.{from-step, from-none, from-all}
+use Rattle.rules.specs.Decode.{readDefinition}
+use Rattle.codec.proofs.Writers.{tail-seen}
 use Rattle.text_scan.proofs.ScanLaws.{leading-take, trailing-drop}
 use Rattle.text_scan.specs.Scan.{firstByte, startsWith, frontWhile, afterWhile}
 use Rattle.declaration_scan.specs.Declared.{markCode, nameHere, placeAmong, declaredName, afterDeclared, declaredKind}
@@ -55,45 +51,52 @@ name-declared l a r e n = record { value = n .value ∙ ap nameHere e; short = n
 pub rest-declared : (l a b r : Bytes) → a ≡ drop 10 l → b ≡ afterWhile inName a → r ≡ drop 1 b → r ≡ afterDeclared l
 rest-declared l a b r e f g = g ∙ ap (drop 1) (f ∙ ap (afterWhile inName) e)
 
--- ---- the loop over definitions that looks for a name: it is past the first i
-pub record Placing (name defs : Bytes) (n i : ℕ) : Type 0 where
-  pub rest : placeAmong name (writtenNames n defs) ≡ i + placeAmong name (map flatName (recordsFrom readDefinition definitionSize defs n i))
+-- ---- the loop over definitions that looks for a name: it is past the first i, and t is what is left
+pub record Placing (name defs : Bytes) (n : ℕ) (t : Bytes) (i : ℕ) : Type 0 where
+  pub rest : placeAmong name (writtenNames n defs) ≡ i + placeAmong name (writtenNames (n - i) t)
+  pub whole : 20 * (n - i) ≤ length t
   pub upto : i ≤ n
 
-pub placing-start : (name defs : Bytes) (n : ℕ) → Placing name defs n 0
-unfolding writtenNames
-placing-start name defs n =
-    record {
-      rest = ap (λ (ds : List FlatDefinition). placeAmong name (map flatName ds)) (sym (from-all readDefinition definitionSize defs n 0))
-          ∙ sym (zero-add (placeAmong name (map flatName (recordsFrom readDefinition definitionSize defs n 0))));
-      upto = omega arith;
-    }
+pub placing-start : (name defs : Bytes) (n : ℕ) → 20 * n ≤ length defs → Placing name defs n defs 0
+placing-start name defs n h =
+    let all : n - 0 ≡ n = omega arith in
+    record { rest = rw (all, zero-add); whole = omega arith; upto = omega arith }
 
-module _ (name defs : Bytes) (n i : ℕ) (p : Placing name defs n i) where
-  abbrev later : List Bytes
-  later = map flatName (recordsFrom readDefinition definitionSize defs n (i + 1))
+module _ {name defs : Bytes} {n : ℕ} {t : Bytes} {i : ℕ} (p : Placing name defs n t i) where
+  module _ (h : i < n) where
+    pub placing-first : 20 ≤ length t
+    placing-first = omega (arith, p .whole)
 
-  module _ (h : i < n) (rec found : Bytes) (a : rec ≡ recordAt definitionSize i defs) (f : found ≡ readDefinition rec .name) (b : Bool) (e : b ≡ same name found) where
-    placed-by : (b : Bool) → b ≡ same name found → placeAmong name (writtenNames n defs) ≡ i + elim b [ true ↦ 0 | false ↦ suc (placeAmong name later) ]
-    unfolding placeAmong
-    placed-by b e =
-        p .rest
-        ∙ ap (λ (ds : List FlatDefinition). i + placeAmong name (map flatName ds)) (from-step readDefinition definitionSize defs n i h)
-        ∙ ap (λ (m : Bytes). i + placeAmong name (m ∷ later)) (sym (f ∙ ap (λ (r : Bytes). readDefinition r .name) a))
-        ∙ ap (λ (t : Bool). i + elim t [ true ↦ 0 | false ↦ suc (placeAmong name later) ]) (sym e)
+    module _ (b : Bool) (e : b ≡ same name (readDefinition (take 20 t) .name)) where
+      abbrev later : ℕ
+      later = placeAmong name (writtenNames (n - (i + 1)) (drop 20 t))
 
-    pub placing-hit : b ≡ true → PlaceIn n (placeAmong name (writtenNames n defs)) i
-    placing-hit t = record { value = sym (placed-by true (sym t ∙ e) ∙ add-zero i); small = omega arith }
+      -- by the name of the first definition that is left
+      placed-by : placeAmong name (writtenNames n defs) ≡ i + elim b [ true ↦ 0 | false ↦ suc later ]
+      unfolding placeAmong writtenNames
+      placed-by =
+          let more : n - i ≡ suc (n - (i + 1)) = omega arith in
+          p .rest ∙ ap (λ (k : ℕ). i + placeAmong name (writtenNames k t)) more
+          ∙ ap (λ (z : Bool). i + elim z [ true ↦ 0 | false ↦ suc later ]) (sym e)
 
-    pub placing-on : b ≡ false → Placing name defs n (i + 1)
-    placing-on t = record { rest = let u : placeAmong name (writtenNames n defs) ≡ i + suc (placeAmong name later) = placed-by false (sym t ∙ e) in omega arith; upto = omega arith }
+      pub placing-hit : b ≡ true → PlaceIn n (placeAmong name (writtenNames n defs)) i
+      placing-hit g = record { value = sym (placed-by ∙ (λ j. i + elim (g j) [ true ↦ 0 | false ↦ suc later ]) ∙ add-zero i); small = omega arith }
+
+      pub placing-on : b ≡ false → Placing name defs n (take (length t - 20) (drop 20 t)) (i + 1)
+      placing-on g =
+          let on : placeAmong name (writtenNames n defs) ≡ i + suc later = placed-by ∙ (λ j. i + elim (g j) [ true ↦ 0 | false ↦ suc later ]) in
+          record {
+            rest = rw (tail-seen t 20) (omega (arith, on));
+            whole = rw (tail-seen t 20) (omega (arith, p .whole, length-drop 20 t));
+            upto = omega arith;
+          }
 
   pub placing-end : n ≤ i → PlaceIn n (placeAmong name (writtenNames n defs)) n
-  unfolding placeAmong
+  unfolding placeAmong writtenNames
   placing-end h =
-      let none : placeAmong name (writtenNames n defs) ≡ i + 0 =
-      p .rest ∙ ap (λ (ds : List FlatDefinition). i + placeAmong name (map flatName ds)) (from-none readDefinition definitionSize defs n i h) in
-      record { value = omega (arith, p .upto); small = omega arith }
+      let past : n - i ≡ 0 = omega arith in
+      let none : placeAmong name (writtenNames n defs) ≡ i + 0 = p .rest ∙ ap (λ (k : ℕ). i + placeAmong name (writtenNames k t)) past in
+      record { value = omega (arith, none, p .upto); small = omega arith }
 
 -- ---- kinds
 abbrev kindBy : Bool → Bool → ℕ

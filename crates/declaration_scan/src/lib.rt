@@ -1,6 +1,9 @@
 //! What stands in a declaration: names, marks, the places of names, the kind of a definition.
 ghost use mathlib.Core.Path.{_≡_};
-ghost use Prim.Native.Nat.{_≤_};
+ghost use Prim.Native.Nat.{_*_, _≤_};
+ghost use lib.ListN.{length};
+ghost use Rattle.rules.specs.Bytes.{same};
+ghost use Rattle.rules.specs.Decode.{readDefinition};
 ghost use Rattle.rules.specs.WellFormed.{inName};
 ghost use Rattle.text_scan.specs.Scan.{afterWhile};
 ghost use Rattle.declaration_scan.specs.Declared.{markCode, nameHere, placeAmong, declaredName, afterDeclared, declaredKind};
@@ -36,19 +39,25 @@ pub fn after_name(text: &[u8]) -> &[u8]
     codec::after(text, n)
 }
 
+// Whether a definition has the name.
+fn is_named(rec: &[u8], name: &[u8]) -> bool
+    ensures { λ r. ⌜ r ≡ same (now (name .entry)) (readDefinition (now (rec .entry)) .name) ⌝ }
+{
+    codec::equal(name, layout::definition_name(rec))
+}
+
 /// Where the definition of a name stands among the first n, or n.
 pub fn definition_place(defs: &[u8], n: usize, name: &[u8]) -> usize
-    requires { ⌜ n ≤ 64 ⌝ }
+    requires { ⌜ (n ≤ 64) × (20 * n ≤ length (now defs)) ⌝ }
     ensures { λ r. ⌜ PlaceIn n (placeAmong (now (name .entry)) (writtenNames n (now (defs .entry)))) r ⌝ }
 {
+    let mut t = defs;
     let mut i = 0;
     while i < n {
-        if codec::equal(
-            name,
-            layout::definition_name(layout::definition_at(defs, i)),
-        ) {
+        if is_named(&t[..layout::DEFINITION_SIZE], name) {
             return i;
         }
+        t = &t[layout::DEFINITION_SIZE..];
         i += 1;
     }
     n

@@ -129,7 +129,7 @@ fn put_group(text: &[u8], depth: u8, out: &mut [u8], at: usize) -> usize
 
 // Writes the element that stands here, of one of n definitions.
 fn put_element(defs: &[u8], n: usize, text: &[u8], depth: u8, out: &mut [u8], at: usize) -> usize
-    requires { ⌜ (n ≤ 64) × (at < 4611686018427387904) ⌝ }
+    requires { ⌜ (n ≤ 64) × (20 * n ≤ length (now defs)) × (at < 4611686018427387904) ⌝ }
     ensures { λ r. ⌜ Laid (particleBytes (elementHere (writtenNames n (now (defs .entry))) depth (now (text .entry)))) (now (out .entry)) at r (now (out .exit)) ⌝ }
 {
     let name = declaration_scan::name_here(text);
@@ -148,7 +148,8 @@ fn put_here(
     out: &mut [u8],
     at: usize,
 ) -> usize
-    requires { ⌜ (n ≤ 64) × (0 < length (now text)) × (shallow (startingHere (writtenNames n (now defs)) depth inside (now text)) ≡ true) × (at < 4611686018427387904) ⌝ }
+    requires { ⌜ (n ≤ 64) × (20 * n ≤ length (now defs)) × (0 < length (now text))
+        × (shallow (startingHere (writtenNames n (now defs)) depth inside (now text)) ≡ true) × (at < 4611686018427387904) ⌝ }
     ensures { λ r. ⌜ Laid (each particleBytes (startingHere (writtenNames n (now (defs .entry))) depth inside (now (text .entry)))) (now (out .entry)) at r (now (out .exit)) ⌝ }
 {
     let x = codec::byte(text, 0);
@@ -163,7 +164,7 @@ fn put_here(
 
 // Writes the particles of a content model, none of them too deep, over n definitions.
 fn put_model(defs: &[u8], n: usize, text: &[u8], out: &mut [u8], start: usize) -> usize
-    requires { ⌜ (n ≤ 64) × (shallow (modelFrom (writtenNames n (now defs)) 0 false (now text)) ≡ true)
+    requires { ⌜ (n ≤ 64) × (20 * n ≤ length (now defs)) × (shallow (modelFrom (writtenNames n (now defs)) 0 false (now text)) ≡ true)
         × (start + particleSize * length (modelFrom (writtenNames n (now defs)) 0 false (now text)) < 2305843009213693952) ⌝ }
     ensures { λ r. ⌜ Laid (each particleBytes (modelFrom (writtenNames n (now (defs .entry))) 0 false (now (text .entry)))) (now (out .entry)) start r (now (out .exit)) ⌝ }
 {
@@ -198,7 +199,7 @@ pub fn measure_content(content: &[u8]) -> Measured
 
 /// Writes the particles of the content of a definition, none of them too deep, over n definitions.
 pub fn put_content(defs: &[u8], n: usize, content: &[u8], out: &mut [u8], at: usize) -> usize
-    requires { ⌜ (n ≤ 64) × (shallow (modelOfContent (writtenNames n (now defs)) (now content)) ≡ true)
+    requires { ⌜ (n ≤ 64) × (20 * n ≤ length (now defs)) × (shallow (modelOfContent (writtenNames n (now defs)) (now content)) ≡ true)
         × (at + particleSize * length (modelOfContent (writtenNames n (now defs)) (now content)) < 2305843009213693952) ⌝ }
     ensures { λ r. ⌜ Laid (each particleBytes (modelOfContent (writtenNames n (now (defs .entry))) (now (content .entry)))) (now (out .entry)) at r (now (out .exit)) ⌝ }
 {

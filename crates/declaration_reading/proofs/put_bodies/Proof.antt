@@ -3,6 +3,7 @@
 -- there is room for them (`definitions-size`, `particles-room`, `attributes-room`).
 use Prim.Native.Nat.{ℕ}
 use lib.ListN.{length-replicate}
+use Rattle.codec.proofs.Writers.{laid-long}
 use Rattle.declaration_scan.specs.Declared.{declarations}
 use Rattle.declaration_reading.proofs.FormLaws.{definitions-size, particles-fit, particles-room, attributes-room, names-written, bodies-laid}
 use native.Mathlib.Omega.{arith}
@@ -29,9 +30,12 @@ slice-aggregate-put-particles c = search needs
 put-particles-requires : tie.Need-put-particles-requires
 put-particles-requires c κs =
     let at-put-definitions2 = c .before .before .before .before in
-    let start = at-put-definitions2 .before .before .before .before .before .before .before in
+    let at-put-definitions = at-put-definitions2 .before .before .before in
+    let start = at-put-definitions .before .before .before .before in
+    let aside = laid-long (at-put-definitions .put-definitions .ensures) in
     let a = start .args in (
       omega (arith, start .pre .2, start .pre .1 .definitions),
+      omega (arith, start .pre .2, start .pre .1 .definitions, aside, length-replicate {A = ℕ} 1280 0),
       particles-fit (declarations (a .text .now)) (start .pre .1) _,
       particles-room (declarations (a .text .now)) (start .pre .1) (start .pre .3) (at-put-definitions2 .put-definitions2 .ensures) _,
     )

@@ -34,8 +34,9 @@ put-content-requires c κs =
     let names = writtenNames (a .n) (a .defs .now) in
     let is = not-false _ (at-if1 .if1 .left) in (
       start .pre .0,
-      particles-low (a .line .now) _ (at-starts-with .starts-with .ensures) is _ (at-after-declared .after-declared .ensures) names (start .pre .1),
-      particles-small (a .line .now) _ (at-starts-with .starts-with .ensures) is _ (at-after-declared .after-declared .ensures) names _ (start .pre .2),
+      start .pre .1,
+      particles-low (a .line .now) _ (at-starts-with .starts-with .ensures) is _ (at-after-declared .after-declared .ensures) names (start .pre .2),
+      particles-small (a .line .now) _ (at-starts-with .starts-with .ensures) is _ (at-after-declared .after-declared .ensures) names _ (start .pre .3),
     )
 
 same-length : tie.Need-same-length

@@ -31,7 +31,7 @@ loop-holds : tie.Need-loop-holds Inv-loop μ-loop
 loop-holds c =
     let start = c .before .before .before in
     let a = start .args in
-    (writing-start (λ (o : ℕ) (ls : List Bytes). saidParticles (writtenNames (a .n) (a .defs .now)) ls) _ _ (a .text .now) (start .pre .2), start .pre .1)
+    (writing-start (λ (o : ℕ) (ls : List Bytes). saidParticles (writtenNames (a .n) (a .defs .now)) ls) _ _ (a .text .now) (start .pre .3), start .pre .2)
 
 is-declaration-requires : tie.Need-is-declaration-requires Inv-loop μ-loop
 is-declaration-requires c κs = search needs
@@ -56,6 +56,7 @@ put-particle-line-requires c κs =
     (span-rest (at-line-span .line-span .ensures)) in
     let names = writtenNames (a .n) (a .defs .now) in (
       start .pre .0,
+      start .pre .1,
       low-each (at-loop .loop .t .now) _ _ piece names (at-loop .loop .inv .1) .0,
       writing-room (λ (o : ℕ) (ls : List Bytes). saidParticles (writtenNames (a .n) (a .defs .now)) ls) (at-loop .loop .inv .0) _ _ piece 0 (particles-body names _ _),
     )

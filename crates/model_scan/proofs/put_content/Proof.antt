@@ -23,8 +23,9 @@ put-model-requires c κs =
     let names = writtenNames (a .n) (a .defs .now) in
     let kind = at-declared-kind .declared-kind .ensures in (
       start .pre .0,
-      content-low (a .content .now) _ kind names _ (at-if1 .if1 .taken) (at-after .after .ensures) (start .pre .1),
-      content-small (a .content .now) _ kind names _ _ _ (at-if1 .if1 .taken) (at-after .after .ensures) (start .pre .2),
+      start .pre .1,
+      content-low (a .content .now) _ kind names _ (at-if1 .if1 .taken) (at-after .after .ensures) (start .pre .2),
+      content-small (a .content .now) _ kind names _ _ _ (at-if1 .if1 .taken) (at-after .after .ensures) (start .pre .3),
     )
 
 same-length : tie.Need-same-length

@@ -36,7 +36,7 @@ cast-put-group c =
     let a = start .args in
     let low =
     starting-low (writtenNames (a .n) (a .defs .now)) (a .depth) (a .inside) (a .text .now) _ (at-byte .byte .ensures) _ (at-starts-here .starts-here .ensures)
-    (not-false _ (at-if1 .if1 .left)) (start .pre .2) in
+    (not-false _ (at-if1 .if1 .left)) (start .pre .3) in
     omega (arith, low)
 
 put-group-requires : tie.Need-put-group-requires
@@ -67,7 +67,7 @@ cast-put-element c =
     let a = start .args in
     let low =
     starting-low (writtenNames (a .n) (a .defs .now)) (a .depth) (a .inside) (a .text .now) _ (at-byte .byte .ensures) _ (at-starts-here .starts-here .ensures)
-    (not-false _ (at-if1 .if1 .left)) (start .pre .2) in
+    (not-false _ (at-if1 .if1 .left)) (start .pre .3) in
     omega (arith, low)
 
 put-element-requires : tie.Need-put-element-requires
@@ -86,7 +86,7 @@ returns-3 c =
     let start = at-byte .before .before .before .before in
     let a = start .args in
     starting-element (writtenNames (a .n) (a .defs .now)) (a .depth) (a .inside) (a .text .now) _ (at-byte .byte .ensures) _ (at-starts-here .starts-here .ensures)
-    (not-false _ (at-if1 .if1 .left)) (at-if2 .if2 .left) (start .pre .1) (at-put-element .put-element .ensures)
+    (not-false _ (at-if1 .if1 .left)) (at-if2 .if2 .left) (start .pre .2) (at-put-element .put-element .ensures)
 
 pub put-here-spec : {M : Type 1} → statement M
 put-here-spec =

@@ -21,7 +21,7 @@ abbrev μ-loop : tie.MeasureT-loop
 loop-holds : tie.Need-loop-holds Inv-loop μ-loop
 loop-holds c =
     let start = c .before .before .before in
-    record { goes = λ r o l. l; low = start .pre .1; small = start .pre .2; near = omega arith; long = refl }
+    record { goes = λ r o l. l; low = start .pre .2; small = start .pre .3; near = omega arith; long = refl }
 
 after-requires : tie.Need-after-requires Inv-loop μ-loop
 after-requires c κs = search needs
@@ -34,6 +34,7 @@ put-here-requires c κs =
     let a = start .args in
     let names = writtenNames (a .n) (a .defs .now) in (
       start .pre .0,
+      start .pre .1,
       putting-here names (a .text .now) _ _ _ (at-loop .loop .inv) (omega arith) _ (at-after .after .ensures),
       putting-low names (a .text .now) _ _ _ (at-loop .loop .inv) (omega arith) _ (at-after .after .ensures),
       omega (arith, at-loop .loop .inv .small),

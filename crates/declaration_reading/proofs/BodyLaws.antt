@@ -16,10 +16,12 @@ use Rattle.layout.specs.RecordBytes.{definitionOf}
 use Rattle.declaration_scan.specs.Declared.{isDefinition, declaredName, afterDeclared, declaredKind, modelOfContent}
 use Rattle.declaration_scan.specs.Declared.{definitionOfLine, attributeOfLine, definitionsOfLines, particlesOfLines, attributesOfLines}
 use Rattle.declaration_scan.specs.Declared.{declarations}
-use Rattle.declaration_scan.specs.Names.{NameOf}
+use Rattle.declaration_scan.specs.Names.{NameOf, writtenNames}
 use Rattle.model_scan.specs.Scanning.{shallow, Measures}
-use Rattle.declaration_reading.specs.Lines.{ownersAfter, saidDefinitions, saidParticles, saidAttributes}
-use Rattle.declaration_reading.proofs.LineLaws.{Cut, said, listed, definitions-split, particles-split, attributes-split, particles-cut, lows-cut}
+use Rattle.declaration_reading.specs.declared.Body.{Body}
+use Rattle.declaration_reading.specs.declared.Body.the-variants.{Definitions, Particles, Attributes}
+use Rattle.declaration_reading.specs.Lines.{ownersAfter, saidDefinitions, saidParticles, saidAttributes, saidBody, FormFits, Ready}
+use Rattle.declaration_reading.proofs.LineLaws.{Cut, said, listed, definitions-split, particles-split, attributes-split, definitions-cut, particles-cut, attributes-cut, lows-cut}
 use Rattle.declaration_reading.proofs.CountLaws.{defined}
 
 -- ---- one line
@@ -85,80 +87,105 @@ module _ (l : Bytes) (b : Bool) (e : b ≡ isDefinition l) where
   owners-same o h = λ i. elim ((sym h ∙ e) i) [ true ↦ suc o | false ↦ o ]
 
 -- ---- bodies, by the first line and the others
-pub definitions-body : (l : Bytes) (ls : List Bytes) → saidDefinitions (l ∷ ls) ≡ saidDefinitions (l ∷ []) ++ saidDefinitions ls
+definitions-body : (l : Bytes) (ls : List Bytes) → saidDefinitions (l ∷ ls) ≡ saidDefinitions (l ∷ []) ++ saidDefinitions ls
 unfolding saidDefinitions
 definitions-body l ls = ap (each definitionBytes) (definitions-split l ls) ∙ each-append definitionBytes (definitionsOfLines (l ∷ [])) (definitionsOfLines ls)
 
-pub particles-body : (ns : List Bytes) (l : Bytes) (ls : List Bytes) → saidParticles ns (l ∷ ls) ≡ saidParticles ns (l ∷ []) ++ saidParticles ns ls
+particles-body : (ns : List Bytes) (l : Bytes) (ls : List Bytes) → saidParticles ns (l ∷ ls) ≡ saidParticles ns (l ∷ []) ++ saidParticles ns ls
 unfolding saidParticles
 particles-body ns l ls = ap (each particleBytes) (particles-split ns l ls) ∙ each-append particleBytes (particlesOfLines ns (l ∷ [])) (particlesOfLines ns ls)
 
-pub attributes-body : (w o o′ : ℕ) (l : Bytes) (ls : List Bytes) → o′ ≡ ownersAfter l o → saidAttributes w o (l ∷ ls) ≡ saidAttributes w o (l ∷ []) ++ saidAttributes w o′ ls
+attributes-body : (w o o′ : ℕ) (l : Bytes) (ls : List Bytes) → o′ ≡ ownersAfter l o → saidAttributes w o (l ∷ ls) ≡ saidAttributes w o (l ∷ []) ++ saidAttributes w o′ ls
 unfolding saidAttributes
 attributes-body w o o′ l ls e =
     ap (each (attributeBytes w)) (attributes-split w o l ls) ∙ each-append (attributeBytes w) (attributesOfLines w o (l ∷ [])) (attributesOfLines w (ownersAfter l o) ls)
     ∙ ap (λ (k : ℕ). saidAttributes w o (l ∷ []) ++ saidAttributes w k ls) (sym e)
 
--- ---- the loops over the lines, each with its body F, of lines that o definitions stand before
--- once what the lines that are left say is written, all is, and there is room for it
-pub record Writing (F : ℕ → List Bytes → Bytes) (goal out₀ : Bytes) (at₀ : ℕ) (out : Bytes) (at o : ℕ) (t : Bytes) : Type 0 where
-  pub goes : (r : ℕ) (out″ : Bytes) → Laid (F o (declarations t)) out at r out″ → Laid goal out₀ at₀ r out″
-  pub small : at + length (F o (declarations t)) < 1152921504606846976
-  pub long : length out ≡ length out₀
-
-pub writing-start : (F : ℕ → List Bytes → Bytes) (out : Bytes) (at : ℕ) (t : Bytes) → at + length (F 0 (declarations t)) < 1152921504606846976
-    → Writing F (F 0 (declarations t)) out at out at 0 t
-writing-start F out at t h = record { goes = λ r o l. l; small = h; long = refl }
-
-module _ (F : ℕ → List Bytes → Bytes) {goal out₀ : Bytes} {at₀ : ℕ} {out : Bytes} {at o : ℕ} {t : Bytes} (w : Writing F goal out₀ at₀ out at o t) where
-  module _ (line rest : Bytes) (u : Cut t line rest) (o′ : ℕ) (parts : F o (line ∷ declarations rest) ≡ F o (line ∷ []) ++ F o′ (declarations rest)) where
-    whole : F o (declarations t) ≡ F o (line ∷ []) ++ F o′ (declarations rest)
-    whole = ap (F o) (u .declared) ∙ parts
-
-    pub writing-room : at + length (F o (line ∷ [])) < 1152921504606846976
-    writing-room = omega (arith, w .small, ap length whole, length-append (F o (line ∷ [])) (F o′ (declarations rest)))
-
-    pub writing-on : {at′ : ℕ} {out′ : Bytes} → Laid (F o (line ∷ [])) out at at′ out′ → Writing F goal out₀ at₀ out′ at′ o′ rest
-    writing-on l =
-        record {
-          goes = λ r q m. w .goes r q (laid-as whole (laid-then l m));
-          small = omega (arith, w .small, l .next, ap length whole, length-append (F o (line ∷ [])) (F o′ (declarations rest)));
-          long = laid-long l ∙ w .long;
-        }
-
-  pub writing-done : declarations t ≡ [] → F o [] ≡ [] → Laid goal out₀ at₀ at out
-  writing-done none empty = w .goes at out (laid-as (ap (F o) none ∙ empty) laid-none)
+body-split : (body : Body) (defs : Bytes) (o o′ : ℕ) (l : Bytes) (ls : List Bytes) → o′ ≡ ownersAfter l o
+    → saidBody body defs o (l ∷ ls) ≡ saidBody body defs o (l ∷ []) ++ saidBody body defs o′ ls
+body-split Definitions defs o o′ l ls e = definitions-body l ls
+body-split (Particles n) defs o o′ l ls e = particles-body (writtenNames n defs) l ls
+body-split (Attributes w) defs o o′ l ls e = attributes-body w o o′ l ls e
 
 -- no line says anything, so that nothing is written
-pub definitions-end : saidDefinitions [] ≡ []
-unfolding saidDefinitions definitionsOfLines
-definitions-end = refl
+body-end : (body : Body) (defs : Bytes) (o : ℕ) → saidBody body defs o [] ≡ []
+unfolding saidDefinitions saidParticles saidAttributes definitionsOfLines particlesOfLines attributesOfLines
+body-end Definitions defs o = refl
+body-end (Particles n) defs o = refl
+body-end (Attributes w) defs o = refl
 
-pub particles-end : (ns : List Bytes) → saidParticles ns [] ≡ []
-unfolding saidParticles particlesOfLines
-particles-end ns = refl
+-- ---- the loop over the lines of a body
+-- what is asked of all lines holds of the first and of those after it
+module _ {t line rest : Bytes} (u : Cut t line rest) {o : ℕ} (f : FormFits o (declarations t)) where
+  lows : (shallow (particlesOfLines [] (line ∷ [])) ≡ true) × (shallow (particlesOfLines [] (declarations rest)) ≡ true)
+  lows = and-split (shallow (particlesOfLines [] (line ∷ []))) (shallow (particlesOfLines [] (declarations rest))) (sym (lows-cut t line rest u []) ∙ f .low)
 
-pub attributes-end : (w o : ℕ) → saidAttributes w o [] ≡ []
-unfolding saidAttributes attributesOfLines
-attributes-end w o = refl
+  fits-first : FormFits o (line ∷ [])
+  fits-first =
+      record {
+        definitions = omega (arith, f .definitions, definitions-cut t line rest u);
+        particles = omega (arith, f .particles, particles-cut t line rest u);
+        attributes = omega (arith, f .attributes, attributes-cut t line rest u);
+        low = lows .0;
+      }
 
-abbrev pub counted : Bool → FlatDefinition → List FlatDefinition → List FlatDefinition
-counted b d ds = elim b [ true ↦ d ∷ ds | false ↦ ds ]
-
--- ---- what is asked of all lines holds of the first and of those after it
-module _ (t line rest : Bytes) (u : Cut t line rest) where
-  pub few-each : length (particlesOfLines [] (declarations t)) ≤ 256 → (length (particlesOfLines [] (line ∷ [])) ≤ 256) × (length (particlesOfLines [] (declarations rest)) ≤ 256)
-  few-each h = (omega (arith, particles-cut t line rest u), omega (arith, particles-cut t line rest u))
-
-  pub low-each : (ns : List Bytes) → shallow (particlesOfLines ns (declarations t)) ≡ true
-      → (shallow (particlesOfLines ns (line ∷ [])) ≡ true) × (shallow (particlesOfLines ns (declarations rest)) ≡ true)
-  low-each ns h = and-split (shallow (particlesOfLines ns (line ∷ []))) (shallow (particlesOfLines ns (declarations rest))) (sym (lows-cut t line rest u ns) ∙ h)
-
-  pub owners-on : (o o′ : ℕ) → o′ ≡ ownersAfter line o → o + length (definitionsOfLines (declarations t)) ≤ 64 → o′ + length (definitionsOfLines (declarations rest)) ≤ 64
+  fits-on : {o′ : ℕ} → o′ ≡ ownersAfter line o → FormFits o′ (declarations rest)
   unfolding definitionsOfLines
-  owners-on o o′ e h = omega (arith, e, by (isDefinition line), ap (λ (ls : List Bytes). length (definitionsOfLines ls)) (u .declared))
+  fits-on {o′} e =
+      record {
+        definitions = omega (arith, f .definitions, e, by (isDefinition line), definitions-cut t line rest u);
+        particles = omega (arith, f .particles, particles-cut t line rest u);
+        attributes = omega (arith, f .attributes, attributes-cut t line rest u);
+        low = lows .1;
+      }
     where
-      by : (b : Bool)
-          → elim b [ true ↦ suc o | false ↦ o ] + length (definitionsOfLines (declarations rest)) ≡ o + length (counted b (definitionOfLine line) (definitionsOfLines (declarations rest)))
+      by : (b : Bool) → elim b [ true ↦ suc o | false ↦ o ] ≡ o + length (defined b (definitionOfLine line))
       by true = omega arith
-      by false = refl
+      by false = omega arith
+
+-- once what the lines that are left say is written, all is
+pub record Writing (body : Body) (defs text out₀ : Bytes) (at₀ : ℕ) (out : Bytes) (at o : ℕ) (t : Bytes) : Type 0 where
+  pub goes : (r : ℕ) (out″ : Bytes) → Laid (saidBody body defs o (declarations t)) out at r out″ → Laid (saidBody body defs 0 (declarations text)) out₀ at₀ r out″
+  pub ready : Ready body defs at o (declarations t)
+  pub long : length out ≡ length out₀
+
+module _ {body : Body} {defs text out₀ : Bytes} {at₀ : ℕ} {out : Bytes} {at o : ℕ} {t : Bytes} (w : Writing body defs text out₀ at₀ out at o t) where
+  module _ {line rest : Bytes} (u : Cut t line rest) where
+    abbrev first : Bytes
+    first = saidBody body defs o (line ∷ [])
+
+    module _ {o′ : ℕ} (e : o′ ≡ ownersAfter line o) where
+      abbrev later : Bytes
+      later = saidBody body defs o′ (declarations rest)
+
+      whole : saidBody body defs o (declarations t) ≡ first ++ later
+      whole = ap (saidBody body defs o) (u .declared) ∙ body-split body defs o o′ line (declarations rest) e
+
+      pub writing-on : {at′ : ℕ} {out′ : Bytes} → Laid first out at at′ out′ → Writing body defs text out₀ at₀ out′ at′ o′ rest
+      writing-on l =
+          record {
+            goes = λ r q m. w .goes r q (laid-as whole (laid-then l m));
+            ready =
+                record {
+                  taken = w .ready .taken;
+                  fits = fits-on u (w .ready .fits) e;
+                  room = omega (arith, w .ready .room, l .next, ap length whole, length-append first later);
+                };
+            long = laid-long l ∙ w .long;
+          }
+
+    pub writing-first : Ready body defs at o (line ∷ [])
+    writing-first =
+        let parts = length-append first (later {o′ = ownersAfter line o} refl) in
+        record { taken = w .ready .taken; fits = fits-first u (w .ready .fits); room = omega (arith, w .ready .room, ap length (whole refl), parts) }
+
+  pub writing-done : declarations t ≡ [] → Laid (saidBody body defs 0 (declarations text)) out₀ at₀ at out
+  writing-done none = w .goes at out (laid-as (ap (saidBody body defs o) none ∙ body-end body defs o) laid-none)
+
+-- ---- a body by its name
+pub ready-as : {body which : Body} {defs : Bytes} {at o : ℕ} {ls : List Bytes} → body ≡ which → Ready body defs at o ls → Ready which defs at o ls
+ready-as e r = rw e at r
+
+pub body-laid : (defs : Bytes) (o : ℕ) (ls : List Bytes) {body which : Body} {out out′ : Bytes} {at r : ℕ} → body ≡ which → Laid (saidBody which defs o ls) out at r out′
+    → Laid (saidBody body defs o ls) out at r out′
+body-laid defs o ls e l = laid-as (ap (λ (b : Body). saidBody b defs o ls) e) l

@@ -1,22 +1,22 @@
 -- The form that declarations say, as the bytes of a store: the ceilings, the names of its definitions, its parts.
-use Prim.Native.Nat.{ℕ, _+_, _<_, _≤_}
+use Prim.Native.Nat.{ℕ, _+_, _≤_}
 use mathlib.Core.Path.{_≡_, refl, sym, ap, ap₂, _∙_}
 use mathlib.Core.Bool.{Bool, true, false, _&&_, false≢true}
 use mathlib.Core.List.{List, [], _∷_, _++_, map, append-nil}
 use native.Mathlib.Omega.{arith}
 use borrow.Author.Tests.{leb-true}
 use lib.Dec.{leb}
-use lib.ListN.{length, drop, length-take, length-append}
-use lib.Seq.{sets-eq}
+use lib.ListN.{length, take, drop, length-take, length-append}
+use lib.Seq.{sets-eq, take-at}
 use Rattle.rules.specs.Bytes.{Bytes}
-use Rattle.rules.specs.Layout.{le, definitionSize, particleSize, attributeSize, definitionBytes, particleBytes, attributeBytes, each, flatBytes}
+use Rattle.rules.specs.Layout.{le, FlatDefinition, definitionSize, particleSize, attributeSize, definitionBytes, particleBytes, attributeBytes, each, flatBytes}
 use Rattle.rules.specs.WellFormed.{inName, withinCeilings}
 use Rattle.rules.specs.Decode.{readDefinition, readMany, flatName}
 use Rattle.rules.proofs.Words.{and-split, and-held}
 use Rattle.rules.proofs.BooleanLaws.{Every}
 use Rattle.rules.proofs.LayoutLaws.{GoodFlatDefinition, length-definition, length-particle, length-attribute, read-definition, length-each, read-each}
 use Rattle.codec.specs.Laid.{Laid}
-use Rattle.codec.proofs.Writers.{laid-then, laid-as}
+use Rattle.codec.proofs.Writers.{laid-then, laid-as, laid-long}
 use Rattle.layout.specs.Bodies.{Width}
 use Rattle.layout.specs.Header.{contents}
 use Rattle.layout.proofs.HeaderLaws.{attributes-few}
@@ -24,9 +24,9 @@ use Rattle.text_scan.specs.Scan.{frontWhile}
 use Rattle.declaration_scan.specs.Declared.{isDefinition, afterDeclared, modelOfContent, definitionOfLine, definitionsOfLines, particlesOfLines, attributesOfLines, declarations, declaredForm}
 use Rattle.declaration_scan.specs.Names.{writtenNames}
 use Rattle.model_scan.specs.Scanning.{shallow}
-use Rattle.declaration_reading.specs.Lines.{Counted, saidDefinitions, saidParticles, saidAttributes, formHead, formBodies, FormFits, FormRead}
+use Rattle.declaration_reading.specs.declared.Body.the-variants.{Definitions, Particles, Attributes}
+use Rattle.declaration_reading.specs.Lines.{Counted, saidDefinitions, saidParticles, saidAttributes, formHead, formBodies, FormFits, Ready, FormRead}
 use Rattle.declaration_reading.proofs.LineLaws.{said, particles-alike, attributes-alike}
-use Rattle.declaration_reading.proofs.BodyLaws.{counted}
 
 -- ---- the ceilings
 module _ (txt : Bytes) {d p a : ℕ} {low : Bool} (c : Counted (declarations txt) d p a low) where
@@ -50,7 +50,7 @@ module _ (txt : Bytes) {d p a : ℕ} {low : Bool} (c : Counted (declarations txt
         && (leb (length (particlesOfLines names (declarations txt))) 256 && (shallow (particlesOfLines names (declarations txt)) && t)))
         (sym (and-held (leb (length (attributesOfLines w 0 (declarations txt))) 64) true refl))
 
-    pub form-fits : b ≡ true → FormFits (declarations txt)
+    pub form-fits : b ≡ true → FormFits 0 (declarations txt)
     form-fits h =
         let (ds, rest) = and-split (leb d 64) (leb p 256 && (low && leb a 64)) (sym e ∙ h) in
         let (ps, others) = and-split (leb p 256) (low && leb a 64) rest in
@@ -67,6 +67,9 @@ module _ (txt : Bytes) {d p a : ℕ} {low : Bool} (c : Counted (declarations txt
     counts-fit h = let f = form-fits h in (omega (arith, f .definitions, c .definitions-are), omega (arith, f .particles, c .particles-are), omega (arith, f .attributes, c .attributes-are))
 
 -- ---- the definitions that were written aside
+abbrev counted : Bool → FlatDefinition → List FlatDefinition → List FlatDefinition
+counted b d ds = elim b [ true ↦ d ∷ ds | false ↦ ds ]
+
 definitions-good : (ls : List Bytes) → length (particlesOfLines [] ls) ≤ 256 → Every GoodFlatDefinition (definitionsOfLines ls)
 unfolding definitionsOfLines particlesOfLines
 definitions-good [] h = tt
@@ -79,7 +82,7 @@ definitions-good (l ∷ ls) h = by (isDefinition l) h (definitions-good ls)
         (record { name = omega (arith, length-take 16 (frontWhile inName (drop 10 l))); particles = omega (arith, both) }, rest (omega (arith, both)))
     by false h rest = rest h
 
-module _ (ls : List Bytes) (f : FormFits ls) where
+module _ (ls : List Bytes) {o : ℕ} (f : FormFits o ls) where
   pub definitions-size : length (saidDefinitions ls) ≤ 1280
   unfolding saidDefinitions
   definitions-size = omega (arith, length-each definitionBytes definitionSize length-definition (definitionsOfLines ls), f .definitions)
@@ -97,15 +100,46 @@ module _ (ls : List Bytes) (f : FormFits ls) where
   pub particles-fit : (ns : List Bytes) → shallow (particlesOfLines ns ls) ≡ true
   particles-fit ns = particles-alike ns [] ls .low ∙ f .low
 
-  -- their names are those of the form
-  pub names-written : (d : ℕ) (zeros defs : Bytes) {r : ℕ} → d ≡ length (definitionsOfLines ls) → 1280 ≤ length zeros → Laid (saidDefinitions ls) zeros 0 r defs
-      → writtenNames d defs ≡ map flatName (definitionsOfLines ls)
+-- d definitions, as many as there are, stand in the first `size` bytes
+pub record Aside (ls : List Bytes) (d : ℕ) (defs : Bytes) (size : ℕ) : Type 0 where
+  pub few : d ≤ 64
+  pub short : size ≤ 1280
+  pub long : length defs ≡ 1280
+  pub front : take size defs ≡ saidDefinitions ls
+  pub sized : size ≡ length (take size defs)
+  pub names : writtenNames d defs ≡ map flatName (definitionsOfLines ls)
+
+module _ {ls : List Bytes} (f : FormFits 0 ls) where
+  pub definitions-ready : Ready Definitions [] 0 0 ls
+  definitions-ready = record { taken = tt; fits = f; room = omega (arith, definitions-size ls f) }
+
+  pub written-aside : {d : ℕ} {zeros defs : Bytes} {size : ℕ} → d ≡ length (definitionsOfLines ls) → length zeros ≡ 1280 → Laid (saidDefinitions ls) zeros 0 size defs → Aside ls d defs size
   unfolding writtenNames saidDefinitions
-  names-written d zeros defs e room l =
-      ap (map flatName)
-      (ap₂ (readMany readDefinition definitionSize) e (l .stored ∙ sets-eq (each definitionBytes (definitionsOfLines ls)) zeros 0 (omega (arith, definitions-size)))
-      ∙ read-each readDefinition definitionBytes definitionSize GoodFlatDefinition length-definition read-definition (definitionsOfLines ls)
-      (drop (0 + length (each definitionBytes (definitionsOfLines ls))) zeros) (definitions-good ls (f .particles)))
+  written-aside {d} {zeros} {defs} {size} e whole l =
+      record {
+        few = omega (arith, e, f .definitions);
+        short = omega (arith, l .next, definitions-size ls f);
+        long = laid-long l ∙ whole;
+        front = front;
+        sized = omega (arith, l .next, ap length front);
+        names =
+            ap (map flatName)
+            (ap₂ (readMany readDefinition definitionSize) e parts
+            ∙ read-each readDefinition definitionBytes definitionSize GoodFlatDefinition length-definition read-definition (definitionsOfLines ls) rest
+            (definitions-good ls (f .particles)));
+      }
+    where
+      bytes : Bytes
+      bytes = each definitionBytes (definitionsOfLines ls)
+
+      rest : Bytes
+      rest = drop (0 + length bytes) zeros
+
+      parts : defs ≡ bytes ++ rest
+      parts = l .stored ∙ sets-eq bytes zeros 0 (omega (arith, definitions-size ls f, whole))
+
+      front : take size defs ≡ bytes
+      front = ap (take size) parts ∙ take-at bytes rest size (omega (arith, l .next))
 
 -- ---- the parts of the bytes
 -- the header by the lists themselves
@@ -130,11 +164,6 @@ pub head-size : (version w d p a : ℕ) {out out′ : Bytes} {r : ℕ} → Laid 
 unfolding formHead contents
 head-size version w d p a l = omega (arith, l .next)
 
-pub bodies-laid : (w : ℕ) (ls ns : List Bytes) {out o₁ o₂ o₃ : Bytes} {at a₁ a₂ r : ℕ} → ns ≡ map flatName (definitionsOfLines ls) → Laid (saidDefinitions ls) out at a₁ o₁
-    → Laid (saidParticles ns ls) o₁ a₁ a₂ o₂ → Laid (saidAttributes w 0 ls) o₂ a₂ r o₃ → Laid (formBodies w ls) out at r o₃
-unfolding formBodies
-bodies-laid w ls ns e x y z = laid-then x (laid-then (laid-as (ap (λ (ms : List Bytes). saidParticles ms ls) (sym e)) y) z)
-
 module _ (version w : ℕ) (txt : Bytes) {d p a : ℕ} {low : Bool} (c : Counted (declarations txt) d p a low) (b : Bool) (e : b ≡ (leb d 64 && (leb p 256 && (low && leb a 64)))) where
   abbrev Reads : Bytes → ℕ → Bytes → Type 0
   Reads form r form′ = FormRead (flatBytes w (declaredForm version w txt)) (withinCeilings (declaredForm version w txt)) form r form′
@@ -152,10 +181,21 @@ module _ (version w : ℕ) (txt : Bytes) {d p a : ℕ} {low : Bool} (c : Counted
         refused = λ t. absurd (false≢true (sym t ∙ sym (ceilings-are txt c b e version w) ∙ h));
       }
 
--- ---- room for the bodies, one after the other
-module _ (ls : List Bytes) (f : FormFits ls) {out o₁ : Bytes} {at a₁ : ℕ} (h : at ≤ 40) (x : Laid (saidDefinitions ls) out at a₁ o₁) where
-  pub particles-room : (ns : List Bytes) → a₁ + length (saidParticles ns ls) < 1152921504606846976
-  particles-room ns = omega (arith, x .next, definitions-size ls f, particles-size ls f ns)
+-- ---- the bodies, one after the other: the definitions from aside, then the particles, then the attributes
+module _ {ls : List Bytes} (f : FormFits 0 ls) {d : ℕ} {defs : Bytes} {size : ℕ} (s : Aside ls d defs size) where
+  module _ {out o₁ : Bytes} {at a₁ : ℕ} (h : at ≤ 40) (x : Laid (take size defs) out at a₁ o₁) where
+    defined-next : a₁ ≤ 1320
+    defined-next = omega (arith, x .next, s .sized, s .short)
 
-  pub attributes-room : (ns : List Bytes) (w : ℕ) {o₂ : Bytes} {a₂ : ℕ} → Width w → Laid (saidParticles ns ls) o₁ a₁ a₂ o₂ → a₂ + length (saidAttributes w 0 ls) < 1152921504606846976
-  attributes-room ns w g y = omega (arith, x .next, y .next, definitions-size ls f, particles-size ls f ns, attributes-size ls f w g)
+    pub particles-ready : Ready (Particles d) defs a₁ 0 ls
+    particles-ready =
+        record { taken = (s .few, omega (arith, s .few, s .long)); fits = f; room = omega (arith, defined-next, particles-size ls f (writtenNames d defs)) }
+
+    module _ {w : ℕ} (g : Width w) {o₂ : Bytes} {a₂ : ℕ} (y : Laid (saidParticles (writtenNames d defs) ls) o₁ a₁ a₂ o₂) where
+      pub attributes-ready : Ready (Attributes w) defs a₂ 0 ls
+      attributes-ready =
+          record { taken = g; fits = f; room = omega (arith, defined-next, y .next, particles-size ls f (writtenNames d defs), attributes-size ls f w g) }
+
+      pub bodies-laid : {o₃ : Bytes} {r : ℕ} → Laid (saidAttributes w 0 ls) o₂ a₂ r o₃ → Laid (formBodies w ls) out at r o₃
+      unfolding formBodies
+      bodies-laid z = laid-then (laid-as (sym (s .front)) x) (laid-then (laid-as (ap (λ (ms : List Bytes). saidParticles ms ls) (sym (s .names))) y) z)

@@ -1,5 +1,5 @@
 -- The lines of a text from the front, and what the declarations among them say.
-use Prim.Native.Nat.{ℕ, suc, _≤_}
+use Prim.Native.Nat.{ℕ, suc, _+_, _*_, _<_, _≤_}
 use mathlib.Core.Path.{_≡_}
 use mathlib.Core.Bool.{Bool, true, false}
 use mathlib.Core.List.{List, [], _++_, map}
@@ -8,10 +8,14 @@ use Rattle.rules.specs.Bytes.{Bytes}
 use Rattle.rules.specs.Layout.{le, definitionBytes, particleBytes, attributeBytes, each}
 use Rattle.rules.specs.Decode.{flatName}
 use Rattle.codec.specs.Laid.{Laid}
+use Rattle.layout.specs.Bodies.{Width}
 use Rattle.layout.specs.Header.{contents}
 use Rattle.text_scan.specs.Scan.{frontWhile, afterWhile, noLineFeed}
 use Rattle.declaration_scan.specs.Declared.{isDefinition, definitionsOfLines, particlesOfLines, attributesOfLines}
+use Rattle.declaration_scan.specs.Names.{writtenNames}
 use Rattle.model_scan.specs.Scanning.{shallow}
+use Rattle.declaration_reading.specs.declared.Body.{Body}
+use Rattle.declaration_reading.specs.declared.Body.the-variants.{Definitions, Particles, Attributes}
 
 -- the first line, and the lines after it
 abbrev pub firstLine : Bytes → Bytes
@@ -46,6 +50,18 @@ saidParticles ns ls = each particleBytes (particlesOfLines ns ls)
 unfoldable pub saidAttributes : ℕ → ℕ → List Bytes → Bytes
 saidAttributes w o ls = each (attributeBytes w) (attributesOfLines w o ls)
 
+-- one of them; the particles take the places of names from definitions that are written
+abbrev pub saidBody : Body → Bytes → ℕ → List Bytes → Bytes
+saidBody Definitions defs o ls = saidDefinitions ls
+saidBody (Particles n) defs o ls = saidParticles (writtenNames n defs) ls
+saidBody (Attributes w) defs o ls = saidAttributes w o ls
+
+-- .. and what it takes besides the lines
+abbrev pub Taken : Body → Bytes → Type 0
+Taken Definitions defs = Unit
+Taken (Particles n) defs = (n ≤ 64) × (20 * n ≤ length defs)
+Taken (Attributes w) defs = Width w
+
 -- ---- the form
 -- the header of a store without rows, of these counts
 unfoldable pub formHead : ℕ → ℕ → ℕ → ℕ → ℕ → Bytes
@@ -55,12 +71,18 @@ formHead version w d p a = le 4 version ++ (le 4 1 ++ contents w d p a 0)
 unfoldable pub formBodies : ℕ → List Bytes → Bytes
 formBodies w ls = saidDefinitions ls ++ (saidParticles (map flatName (definitionsOfLines ls)) ls ++ saidAttributes w 0 ls)
 
--- what lines say is within the ceilings
-pub record FormFits (ls : List Bytes) : Type 0 where
-  pub definitions : length (definitionsOfLines ls) ≤ 64
+-- what lines say that o definitions stand before is within the ceilings
+pub record FormFits (o : ℕ) (ls : List Bytes) : Type 0 where
+  pub definitions : o + length (definitionsOfLines ls) ≤ 64
   pub particles : length (particlesOfLines [] ls) ≤ 256
   pub attributes : length (attributesOfLines 0 0 ls) ≤ 64
   pub low : shallow (particlesOfLines [] ls) ≡ true
+
+-- what lines say of a body can be written from `at` on
+pub record Ready (body : Body) (defs : Bytes) (at o : ℕ) (ls : List Bytes) : Type 0 where
+  pub taken : Taken body defs
+  pub fits : FormFits o ls
+  pub room : at + length (saidBody body defs o ls) < 1152921504606846976
 
 -- the form is written, or what stands there counts for nothing
 pub record FormRead (bs : Bytes) (fits : Bool) (form : Bytes) (r : ℕ) (form′ : Bytes) : Type 0 where

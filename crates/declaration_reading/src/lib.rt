@@ -12,7 +12,8 @@ ghost use Rattle.layout.specs.Bodies.{Width};
 ghost use Rattle.declaration_scan.specs.Declared.{isDeclaration, definitionsOfLines, particlesOfLines, declarations, declaredForm};
 ghost use Rattle.declaration_scan.specs.Names.{writtenNames};
 ghost use Rattle.model_scan.specs.Scanning.{shallow};
-ghost use Rattle.declaration_reading.specs.Lines.{firstLine, Spans, Counted, ownersAfter, saidDefinitions, saidParticles, saidAttributes, formHead, FormFits, formBodies, FormRead};
+ghost use Rattle.declaration_reading.specs.Lines.{firstLine, Spans, Counted, ownersAfter, saidDefinitions, saidParticles, saidAttributes};
+ghost use Rattle.declaration_reading.specs.Lines.{saidBody, Ready, formHead, FormFits, formBodies, FormRead};
 
 // Bytes of as many definitions as the ceiling allows.
 const DEFINITION_BYTES: usize = 1280;
@@ -117,22 +118,6 @@ fn put_definition_line(line: &[u8], out: &mut [u8], at: usize) -> usize
     layout_writer::put_definition(name, kind, measured.count as u32, out, at)
 }
 
-// Writes the definitions that the declarations say.
-fn put_definitions(text: &[u8], out: &mut [u8], start: usize) -> usize
-    requires { ⌜ (length (particlesOfLines [] (declarations (now text))) ≤ 256) × (start + length (saidDefinitions (declarations (now text))) < 1152921504606846976) ⌝ }
-    ensures { λ r. ⌜ Laid (saidDefinitions (declarations (now (text .entry)))) (now (out .entry)) start r (now (out .exit)) ⌝ }
-{
-    let mut at = start;
-    let mut t = text;
-    while is_declaration(t) {
-        let line = line_here(t);
-        let span = line_span(t);
-        at = put_definition_line(line, out, at);
-        t = &t[span..];
-    }
-    at
-}
-
 // Writes the particles of the definition that a line declares, over n definitions.
 fn put_particle_line(defs: &[u8], n: usize, line: &[u8], out: &mut [u8], at: usize) -> usize
     requires { ⌜ (n ≤ 64) × (20 * n ≤ length (now defs)) × (shallow (particlesOfLines (writtenNames n (now defs)) (now line ∷ [])) ≡ true)
@@ -143,23 +128,6 @@ fn put_particle_line(defs: &[u8], n: usize, line: &[u8], out: &mut [u8], at: usi
         return at;
     }
     model_scan::put_content(defs, n, declaration_scan::after_declared(line), out, at)
-}
-
-// Writes the particles that the declarations say, over n definitions.
-fn put_particles(defs: &[u8], n: usize, text: &[u8], out: &mut [u8], start: usize) -> usize
-    requires { ⌜ (n ≤ 64) × (20 * n ≤ length (now defs)) × (shallow (particlesOfLines (writtenNames n (now defs)) (declarations (now text))) ≡ true)
-        × (start + length (saidParticles (writtenNames n (now defs)) (declarations (now text))) < 1152921504606846976) ⌝ }
-    ensures { λ r. ⌜ Laid (saidParticles (writtenNames n (now (defs .entry))) (declarations (now (text .entry)))) (now (out .entry)) start r (now (out .exit)) ⌝ }
-{
-    let mut at = start;
-    let mut t = text;
-    while is_declaration(t) {
-        let line = line_here(t);
-        let span = line_span(t);
-        at = put_particle_line(defs, n, line, out, at);
-        t = &t[span..];
-    }
-    at
 }
 
 // How many definitions stand before the next line.
@@ -185,10 +153,29 @@ fn put_owned(w: usize, owners: usize, line: &[u8], out: &mut [u8], at: usize) ->
     attribute_scan::put_attribute_line(w, owner as u8, line, out, at)
 }
 
-// Writes the attributes that the declarations say.
-fn put_attributes(w: usize, text: &[u8], out: &mut [u8], start: usize) -> usize
-    requires { ⌜ Width w × (length (definitionsOfLines (declarations (now text))) ≤ 64) × (start + length (saidAttributes w 0 (declarations (now text))) < 1152921504606846976) ⌝ }
-    ensures { λ r. ⌜ Laid (saidAttributes w 0 (declarations (now (text .entry)))) (now (out .entry)) start r (now (out .exit)) ⌝ }
+// One of the bodies: the definitions, the particles over so many definitions, the attributes at a width.
+enum Body {
+    Definitions,
+    Particles(usize),
+    Attributes(usize),
+}
+
+// Writes what a line says of a body. So many definitions stand before it; the particles take names from `defs`.
+fn put_line(body: Body, defs: &[u8], owners: usize, line: &[u8], out: &mut [u8], at: usize) -> usize
+    requires { ⌜ Ready body (now defs) at owners (now line ∷ []) ⌝ }
+    ensures { λ r. ⌜ Laid (saidBody body (now (defs .entry)) owners (now (line .entry) ∷ [])) (now (out .entry)) at r (now (out .exit)) ⌝ }
+{
+    match body {
+        Body::Definitions => put_definition_line(line, out, at),
+        Body::Particles(n) => put_particle_line(defs, n, line, out, at),
+        Body::Attributes(w) => put_owned(w, owners, line, out, at),
+    }
+}
+
+// Writes what the declarations say of a body.
+fn put_body(body: Body, defs: &[u8], text: &[u8], out: &mut [u8], start: usize) -> usize
+    requires { ⌜ Ready body (now defs) start 0 (declarations (now text)) ⌝ }
+    ensures { λ r. ⌜ Laid (saidBody body (now (defs .entry)) 0 (declarations (now (text .entry)))) (now (out .entry)) start r (now (out .exit)) ⌝ }
 {
     let mut at = start;
     let mut owners = 0;
@@ -196,7 +183,7 @@ fn put_attributes(w: usize, text: &[u8], out: &mut [u8], start: usize) -> usize
     while is_declaration(t) {
         let line = line_here(t);
         let span = line_span(t);
-        at = put_owned(w, owners, line, out, at);
+        at = put_line(body, defs, owners, line, out, at);
         owners = owners_after(line, owners);
         t = &t[span..];
     }
@@ -224,16 +211,17 @@ fn put_head(version: u32, w: usize, d: usize, p: usize, a: usize, form: &mut [u8
     layout_writer::put_contents(w, d, p, a, 0, form, second)
 }
 
-// Writes the bodies of a form of d definitions; the particles take the places of names from definitions written aside.
+// Writes the bodies of a form of d definitions. The definitions are written aside first: the particles take the places
+// of names from them.
 fn put_bodies(w: usize, d: usize, text: &[u8], form: &mut [u8], at: usize) -> usize
-    requires { ⌜ Width w × FormFits (declarations (now text)) × (d ≡ length (definitionsOfLines (declarations (now text)))) × (at ≤ 40) ⌝ }
+    requires { ⌜ Width w × FormFits 0 (declarations (now text)) × (d ≡ length (definitionsOfLines (declarations (now text)))) × (at ≤ 40) ⌝ }
     ensures { λ r. ⌜ Laid (formBodies w (declarations (now (text .entry)))) (now (form .entry)) at r (now (form .exit)) ⌝ }
 {
     let mut defs = [0; DEFINITION_BYTES];
-    put_definitions(text, &mut defs, 0);
-    let defined = put_definitions(text, form, at);
-    let modelled = put_particles(&defs, d, text, form, defined);
-    put_attributes(w, text, form, modelled)
+    let size = put_body(Body::Definitions, b"", text, &mut defs, 0);
+    let defined = codec::put(&defs[..size], form, at);
+    let modelled = put_body(Body::Particles(d), &defs, text, form, defined);
+    put_body(Body::Attributes(w), &defs, text, form, modelled)
 }
 
 /// Reads the form that the declarations of a text say, of values of w bytes, as a store without rows; returns its

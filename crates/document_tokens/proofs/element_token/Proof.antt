@@ -26,7 +26,14 @@ after-requires-2 : tie.Need-after-requires-2
 after-requires-2 c κs = search needs
 
 definition-place-requires : tie.Need-definition-place-requires
-definition-place-requires c κs = search needs
+definition-place-requires c κs =
+    let at-definition-count = c .before in
+    let at-after = at-definition-count .before .before .before in
+    let start = at-after .before .before .before in
+    let form = start .args .form .now in
+    let room = start .pre in
+    let count = at-definition-count .definition-count .ensures .value in
+    (omega (arith, room .definitions-few, count), omega (arith, room .definitions-there, count, ap length (c .after2 .ensures), length-drop 40 form))
 
 byte-requires : tie.Need-byte-requires
 byte-requires c κs = search needs

@@ -37,8 +37,9 @@ use Rattle.store_laws.proofs.FormLaws.{FormOf, read-form, forms-of, own-form, c
 use Rattle.store_check.proofs.CallLaws.{Cut, CutOf}
 use Rattle.store_check.proofs.StoreFacts as facts
 use Rattle.form_front.specs.Front.{frontStands, FrontOf}
-use Rattle.document_reading.specs.Judging.{documentsIn, rowsOr, rowsFit, Judges}
-use Rattle.document_row_writer.specs.Putting.{RowsRead}
+use Rattle.document_tokens.specs.Telling.{FormRoom}
+use Rattle.document_row_writer.specs.Putting.{documentsIn, rowsOr, RowsRead}
+use Rattle.document_reading.specs.Judging.{rowsFit, Judges}
 use Rattle.text_reading.specs.Stages.{withDocuments, formByIndex, rowsStand, ifRows, joinedBytes, documentsOutcome}
 use Rattle.read_call.specs.Reading.{Confirmed, rowsBehind, Stand, RowsThere, documentsStored}
 
@@ -66,6 +67,15 @@ pub shape-few : {bs : Bytes} {s : Shape} → ShapeOf bs s → passes bs ≡ true
 unfolding shapeOf
 shape-few {bs} x q =
     subst (λ (z : Shape). (z .definitions ≤ 64) × (z .attributes ≤ 64)) (sym (x .is)) (facts.whole bs q .fewDefinitions, facts.whole bs q .fewAttributes)
+
+-- what the reader of documents asks of a form
+pub form-room : (bs : Bytes) → passes bs ≡ true → FormRoom bs
+form-room bs q =
+    record {
+      definitions-few = facts.whole bs q .fewDefinitions;
+      attributes-few = facts.whole bs q .fewAttributes;
+      definitions-there = omega (arith, counted-definitions bs, ap length (whole (facts.whole bs q .holds)), length-flatBytes (widthOf bs) (bodiesOf bs));
+    }
 
 -- ---- the store of both; `head` and `start`: where the code finds that the form begins and ends
 module _ {bs : Bytes} (h : Holds bs) {head start d p a : ℕ}

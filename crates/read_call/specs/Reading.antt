@@ -13,7 +13,8 @@ use Rattle.rules.specs.Passing.{passes}
 use Rattle.layout.specs.Bodies.{widthOf}
 use Rattle.printing.specs.Texts.{textOf}
 use Rattle.form_front.specs.Front.{frontStands}
-use Rattle.document_reading.specs.Judging.{documentsIn, rowsOr, rowsFit}
+use Rattle.document_row_writer.specs.Putting.{documentsIn, rowsOr}
+use Rattle.document_reading.specs.Judging.{rowsFit}
 use Rattle.text_reading.specs.Stages.{formByIndex, joinedBytes}
 
 -- a form that passes and is the front of a text, and how long it is there

@@ -1,15 +1,14 @@
 -- `read_call::documents_stand` meets its contract: the bodies that the shape cuts out are those of the form's bytes
--- (`cut-of` of CallLaws in `store_check`), a form that passes has what the table and the judge require (`shape-few` of
--- CallLaws), and what is judged by the bodies is judged by the bytes (`stand-by`).
+-- (`cut-of` of CallLaws in `store_check`), a form that passes has what the table and the judge require (`shape-few` and
+-- `form-room` of CallLaws), and what is judged by the bodies is judged by the bytes (`stand-by`).
 use native.Mathlib.Omega.{arith}
 use Prim.Native.Nat.{ℕ}
 use lib.ListN.{length-replicate}
 use borrow.Author.Needs.{needs}
 use Rattle.store_check.proofs.CallLaws.{cut-of}
-use Rattle.store_check.proofs.StoreFacts.{whole}
 use Rattle.read_call.proofs.documents_stand.Statement.{statement}
 use Rattle.read_call.proofs.documents_stand.Tie as tie
-use Rattle.read_call.proofs.CallLaws.{shape-few, stand-by}
+use Rattle.read_call.proofs.CallLaws.{shape-few, form-room, stand-by}
 
 shape-of-requires : tie.Need-shape-of-requires
 shape-of-requires c κs = search needs
@@ -47,8 +46,7 @@ judge-documents-requires c κs =
     let start = at-shape-of .before .before .before in
     let shape = at-shape-of .shape-of .ensures in
     let few = shape-few shape (start .pre) in
-    let facts = whole (start .args .form .now) (start .pre) in
-    (shape .sized .width, few .0, few .1, at-fill-table .fill-table .ensures, facts .fewDefinitions, facts .fewAttributes)
+    (shape .sized .width, few .0, few .1, at-fill-table .fill-table .ensures, form-room (start .args .form .now) (start .pre))
 
 returns : tie.Need-returns
 returns c =

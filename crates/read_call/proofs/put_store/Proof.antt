@@ -7,10 +7,9 @@ use Rattle.layout.proofs.LayoutLaws.{width-within}
 use Rattle.store_laws.proofs.StoreLaws.{holds}
 use Rattle.store_laws.proofs.FormLaws.{start-within}
 use Rattle.plan_writer.proofs.EditedLaws.{heads-of}
-use Rattle.store_check.proofs.StoreFacts.{whole}
 use Rattle.read_call.proofs.put_store.Statement.{statement}
 use Rattle.read_call.proofs.put_store.Tie as tie
-use Rattle.read_call.proofs.CallLaws.{forms, stored-documents, laid-short, rows-at}
+use Rattle.read_call.proofs.CallLaws.{form-room, forms, stored-documents, laid-short, rows-at}
 
 width-in-requires : tie.Need-width-in-requires
 width-in-requires c κs = search needs
@@ -72,11 +71,9 @@ put-documents-requires c κs =
     let at-row-start = at-put-form .before .before .before in
     let at-header-size = at-row-start .before in
     let at-width-in = at-header-size .before .before .before .before in
-    let start = at-width-in .before .before .before .before in
-    let facts = whole (start .args .form .now) (start .pre .0) in (
+    let start = at-width-in .before .before .before .before in (
       at-width-in .width-in .ensures .small,
-      facts .fewDefinitions,
-      facts .fewAttributes,
+      form-room (start .args .form .now) (start .pre .0),
       rows-at (at-width-in .width-in .ensures) (start .pre .1),
       laid-short (start .args .form .now) _ _ _ _ _ _ _ (at-row-start .row-start .ensures) (at-put-form .put-form .ensures),
     )

@@ -39,7 +39,8 @@ use Rattle.attribute_row_refusals.specs.Refused.{AttributeRefused}
 use Rattle.document_rows.specs.Finding.{rowIn, childrenAt}
 use Rattle.change_laws.specs.FirstCondition.{Gives}
 use Rattle.document_rows.proofs.TreeLaws.{ofSort}
-use Rattle.store_check.proofs.StoreFacts.{formIn, docsIn, byIndex, Whole, bad-text, fine-text}
+use Rattle.store_check.specs.Check.{byIndex}
+use Rattle.store_check.proofs.StoreFacts.{formIn, docsIn, Whole, bad-text, fine-text}
 use Rattle.document_rows.proofs.ElementFacts.{Element, NoElement, defined, children-at, any-found, element-conforms}
 use Rattle.document_refusals.proofs.ElementsAfter.{ok}
 use Rattle.attribute_row_refusals.proofs.AttributesAfter.{drop-conforms, set-conforms}

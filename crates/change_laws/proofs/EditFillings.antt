@@ -76,7 +76,8 @@ every-planned version P form ls owner txt (quantify r) c (group q k ms t) f = ev
 every-planned version P form ls owner txt (convert j n) c t f = tt
 every-planned version P form ls owner txt flatten c t f = tt
 
-every-two : (P Q S : Row → List Row → Type 0) → ((r : Row) (b : List Row) → P r b → Q r b → S r b) → (f : Forest Row) → EveryRow P f → EveryRow Q f → EveryRow S f
+-- two facts on each row give a third
+pub every-two : (P Q S : Row → List Row → Type 0) → ((r : Row) (b : List Row) → P r b → Q r b → S r b) → (f : Forest Row) → EveryRow P f → EveryRow Q f → EveryRow S f
 every-two P Q S g bare x y = tt
 every-two P Q S g (tree r b t) (p, x, u) (q, y, v) = (g r _ p q, every-two P Q S g b x y, every-two P Q S g t u v)
 

@@ -3,27 +3,25 @@ use Prim.Native.Nat.{ℕ, suc, _-_, _≤_}
 use native.Mathlib.Omega.{arith}
 use mathlib.Core.Path.{_≡_, refl, ap, ap₂, _∙_}
 use mathlib.Core.Bool.{true}
-use mathlib.Core.Option.{some}
 use mathlib.Core.List.{List, [], _∷_, _++_, map, List·Memᴰ, List·Memᴰ·head}
 use lib.ListN.{length, length-append}
 use Rattle.rules.specs.Bytes.{Bytes}
-use Rattle.rules.specs.Model.{names}
 use Rattle.rules.specs.Store.{Attribute, Definition, Form, element, Row, Forest, bare, tree, Store, members}
 use Rattle.rules.specs.Preorder.{Deep}
 use Rattle.rules.specs.Layout.{valueWidth, FlatDefinition, FlatParticle, FlatAttribute, contentParticles, flatDefinition, allParticles, ownAttributes, allAttributes, flat}
 use Rattle.rules.specs.Decode.{flatName}
-use Rattle.rules.specs.WellFormed.{isName, isAttributeOf, definitionName, lookup, WellFormed}
+use Rattle.rules.specs.WellFormed.{isName, isAttributeOf, definitionName, WellFormed}
 use Rattle.rules.specs.Conforming.{Conforming}
 use Rattle.rules.specs.Passing.{Good}
 use Rattle.rules.specs.Print.{printed}
-use Rattle.rules.proofs.BooleanLaws.{Every, every-zip, every-in, all-of}
-use Rattle.rules.proofs.Height.{lookup-member, known-found}
+use Rattle.rules.proofs.BooleanLaws.{Every, every-zip, every-in}
+use Rattle.rules.proofs.DecodeLaws.{flat-names}
 use Rattle.store_laws.proofs.FormBytesLaws.{few-of, few-particles}
 use Rattle.text_scan.specs.Scan.{startsWith}
 use Rattle.reading_rules.specs.Canonical.{canonicalAttribute, canonicalDefinition}
 use Rattle.reading_rules.proofs.Pieces.{putTokens}
 use Rattle.reading_rules.proofs.Models.{membersInAll}
-use Rattle.reading_rules.proofs.Parsing.{text-of}
+use Rattle.reading_rules.proofs.Parsing.{found-named, readable, text-of}
 use Rattle.declaration_scan.specs.Declared.{afterDeclared, modelOfContent, definitionOfLine, attributeOfLine, definitionsOfLines, particlesOfLines, attributesOfLines, declarations, declaredForm}
 use Rattle.declaration_laws.proofs.TextParts.{formStore}
 use Rattle.declaration_laws.proofs.LineText.{Declarable, definitionText, attributeText, formTexts, RootNamed, declarations-text}
@@ -63,10 +61,6 @@ particles-text form w (d ∷ ds) (h₀, h₁) =
     ∙ ap₂ (λ (x y : List (Deep FlatParticle)). x ++ y) (definition-particles form w d h₀)
     (particles-past (map definitionName form) (d .name) (d .attributes) (formTexts ds) ∙ particles-text form w ds h₁)
 
-flat-names : (form ds : Form) → map flatName (map (flatDefinition form) ds) ≡ map definitionName ds
-flat-names form [] = refl
-flat-names form (d ∷ ds) = ap (λ (z : List Bytes). d .name ∷ z) (flat-names form ds)
-
 -- ---- attributes
 attributes-first : (w o : ℕ) (d : Definition) (ls : List Bytes) → attributesOfLines w o (definitionText d ∷ ls) ≡ attributesOfLines w (suc o) ls
 unfolding attributesOfLines definitionText putTokens startsWith
@@ -99,16 +93,13 @@ definitions-small form (d ∷ ds) n l =
     let s = length-append (contentParticles form (d .content)) (allParticles form ds) in
     (omega (arith, e, s, l), definitions-small form ds n (omega (arith, s, l)))
 
-found-named : (w : ℕ) (form : Form) → WellFormed w form → (n : Bytes) (d : Definition) → lookup n form ≡ some d → isName n ≡ true
-found-named w form ok n d e = let (m, i) = lookup-member n form d e in rw (← i) (ok .definitions d m .name)
-
 declarable : (w : ℕ) (form : Form) → WellFormed w form → (d : Definition) → List·Memᴰ d form → membersInAll (members d) ≤ 256 → Declarable w d
 declarable w form ok d m l =
     let g = ok .definitions d m in
     record {
       name = g .name;
       groups = g .groups;
-      memberNames = all-of isName (names (members d)) (λ n i. let (c, e) = known-found form n (g .inRange n i) in found-named w form ok n c e);
+      memberNames = readable w form ok d m .members;
       small = l;
       attributes = every-in (λ a. isAttributeOf w a ≡ true) (d .attributes) (g .attributes);
     }

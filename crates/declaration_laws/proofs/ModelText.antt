@@ -28,7 +28,7 @@ use Rattle.text_scan.specs.Scan.{afterWhile}
 use Rattle.text_scan.proofs.ScanLaws.{apart, naming}
 use Rattle.reading_rules.specs.Canonical.{canonicalKind, canonicalMembers}
 use Rattle.reading_rules.proofs.Pieces.{putTokens}
-use Rattle.reading_rules.proofs.Models.{MemberEnds, NameStops, leading-name, trailing-name, membersInAll}
+use Rattle.reading_rules.proofs.Models.{MemberEnds, member-ends, NameStops, mark-stops, leading-name, trailing-name, membersInAll}
 use Rattle.declaration_scan.specs.Declared.{markCode, nameHere, Grouped, placeAmong, elementHere, groupHere, modelFrom}
 use Rattle.declaration_laws.proofs.GroupText.{element-put, group-put, no-members-put, mark-code, group-seen}
 
@@ -39,26 +39,17 @@ placed ns (el q n rest) = tree (record { sort = 0; quantifier = quantifierCode q
 placed ns (group q k ms rest) = tree (record { sort = groupCode k; quantifier = quantifierCode q; index = howMany ms }) (placed ns ms) (placed ns rest)
 
 -- ---- what comes after a member
-ends : (x : ℕ) (r : Bytes) → eqb x 63 ≡ false → eqb x 42 ≡ false → eqb x 43 ≡ false → inName x ≡ false → MemberEnds (x ∷ r)
-ends x r a b c d = record { head = x; tail = r; is = refl; one = a; two = b; three = c; name = d }
-
 closing-ends : (r : Bytes) → MemberEnds (41 ∷ r)
-closing-ends r = ends 41 r refl refl refl refl
+closing-ends r = member-ends 41 r refl refl refl refl
 
 separator-ends : (k : GroupKind) (r : Bytes) → MemberEnds (separator k ++ r)
-separator-ends Sequence r = ends 44 r refl refl refl refl
-separator-ends Choice r = ends 124 r refl refl refl refl
+separator-ends Sequence r = member-ends 44 r refl refl refl refl
+separator-ends Choice r = member-ends 124 r refl refl refl refl
 
 others-end : (k : GroupKind) (ms : Members Bytes) (r : Bytes) → MemberEnds r → MemberEnds (putTokens (memberTokens k (separator k) ms) r)
 others-end k done r e = rw (no-members-put k (separator k) r) e
 others-end k (el q n rest) r e = rw (element-put k (separator k) q n rest r) (separator-ends k _)
 others-end k (group q j ms rest) r e = rw (group-put k (separator k) q j ms rest r) (separator-ends k _)
-
-mark-stops : (q : Quantifier) (t : Bytes) → MemberEnds t → NameStops (markOf q ++ t)
-mark-stops None t e = record { head = e .head; tail = e .tail; is = e .is; name = e .name }
-mark-stops Qmark t e = record { head = 63; tail = t; is = refl; name = refl }
-mark-stops Star t e = record { head = 42; tail = t; is = refl; name = refl }
-mark-stops Plus t e = record { head = 43; tail = t; is = refl; name = refl }
 
 -- ---- names
 pub name-here : (n t : Bytes) → isName n ≡ true → NameStops t → nameHere (n ++ t) ≡ n

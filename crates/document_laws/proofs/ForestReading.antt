@@ -9,34 +9,34 @@ use mathlib.Core.List.{List, [], _∷_, _++_, map, append-assoc, cons≢nil, hea
 use lib.Dec.{eqb}
 use lib.ListN.{length, length-map, drop}
 use Rattle.rules.specs.Bytes.{Bytes, isNone}
-use Rattle.rules.specs.Store.{Definition, Form, RowSort, element, attribute, text, Row, Forest, bare, tree, heads}
+use Rattle.rules.specs.Store.{Definition, Form, element, attribute, text, Row, Forest, bare, tree, heads}
 use Rattle.rules.specs.Preorder.{Deep, preorder}
 use Rattle.rules.specs.Layout.{FlatRow, indexOf, attributeIndex, kindCode, flatDefinition, indexed}
 use Rattle.rules.specs.Decode.{nameAt}
-use Rattle.rules.specs.WellFormed.{isName, storedName, isValue, isFill, isAttributeOf, attributeName, definitionName, lookup, WellFormed}
+use Rattle.rules.specs.WellFormed.{isName, isValue, attributeName, definitionName, lookup, WellFormed}
 use Rattle.rules.specs.Conforming.{EveryRow, Sorted, RowConforms}
 use Rattle.rules.specs.Passing.{laidRow}
 use Rattle.rules.specs.Print.{escape}
 use Rattle.rules.proofs.Words.{and-split}
 use Rattle.rules.proofs.BooleanLaws.{Every, every-left, every-right, none-nil}
+use Rattle.rules.proofs.PreorderLaws.{Ends, ends-after}
 use Rattle.rules.proofs.WellFormedLaws.{lookup-member}
-use Rattle.rules.proofs.DecodeLaws.{laid-value}
+use Rattle.rules.proofs.DecodeLaws.{row-code, flat-names, laid-value}
 use Rattle.change_laws.proofs.FormLaws.{index-found}
+use Rattle.reading_rules.proofs.Documents.{rowOfParts}
+use Rattle.reading_rules.proofs.Shapes.{nothing-below}
+use Rattle.reading_rules.proofs.Parsing.{found-named, attribute-named}
 use Rattle.layout.specs.RowBytes.{rowOf}
 use Rattle.declaration_scan.specs.Declared.{placeAmong}
 use Rattle.document_tokens.specs.Tokens.{Declared, declaredNames, kindOfDefinition, endTag, withRows, documentRows}
 use Rattle.document_laws.specs.RowsText.{attributeNamesIn, textOfRows}
 use Rattle.document_laws.specs.Declares.{Declares}
-use Rattle.document_laws.proofs.RowsTextLaws.{Shallow, Follows, text-end, text-start, text-element, text-attribute, text-content, text-stops}
-use Rattle.document_laws.proofs.ForestText.{shallow-after, shallow-root}
+use Rattle.document_laws.proofs.RowsTextLaws.{Follows, text-end, text-start, text-element, text-attribute, text-content, text-stops}
+use Rattle.document_laws.proofs.ForestText.{shallow-root}
 use Rattle.document_laws.proofs.TokenText.{place-name, attribute-name}
-use Rattle.document_laws.proofs.Soundness.{nothing-below, row-code}
 use Rattle.document_laws.proofs.Steps.{with-none, with-append, element-read, attribute-read, text-read, start-read, end-split, end-read, none-read}
-use Rattle.document_laws.proofs.Places.{names-flat, place-index, kind-index, InTable, attribute-among}
+use Rattle.document_laws.proofs.Places.{place-index, kind-index, InTable, attribute-among}
 use Rattle.document_laws.proofs.Kids.{Kids, attribute-kid, text-kid, start-ended, no-kid, element-kid, element-rows}
-
-abbrev rowAs : ℕ → RowSort → Bytes → Bytes → Row
-rowAs k s n v = record { serial = k; sort = s; name = n; value = v }
 
 -- ---- serials in document order
 unfoldable pub rowsIn : Forest Row → ℕ
@@ -55,7 +55,7 @@ no-text f = refl
 module _ (f : Declared) (w : ℕ) (form : Form) (says : Declares f form) (ok : WellFormed w form) where
   -- ---- the tables
   names-are : declaredNames f ≡ map definitionName form
-  names-are = rw (says .definitions) (names-flat form form)
+  names-are = rw (says .definitions) (flat-names form form)
 
   place-is : (n : Bytes) → placeAmong n (declaredNames f) ≡ indexOf n form
   place-is n = rw names-are (place-index n form)
@@ -83,14 +83,10 @@ module _ (f : Declared) (w : ℕ) (form : Form) (says : Declares f form) (ok : W
       ap (λ (i : ℕ). nameAt i (attributeNamesIn f)) (sym (t .place)) ∙ attribute-name (indexOf owner form) n (f .attributes) (rw (t .place) (t .there))
 
   -- ---- names
-  definition-named : (n : Bytes) (d : Definition) → lookup n form ≡ some d → isName n ≡ true
-  definition-named n d e = let (m, q) = lookup-member n form d e in subst (λ (z : Bytes). isName z ≡ true) q (ok .definitions d m .name)
-
-  attribute-named : (owner n : Bytes) (d : Definition) → lookup owner form ≡ some d → List·Memᴰ n (map attributeName (d .attributes)) → isName n ≡ true
-  attribute-named owner n d e m =
+  owned-named : (owner n : Bytes) (d : Definition) → lookup owner form ≡ some d → List·Memᴰ n (map attributeName (d .attributes)) → isName n ≡ true
+  owned-named owner n d e m =
       let (a, i, q) = Memᴰ·of-map attributeName (d .attributes) m in
-      let g : isAttributeOf w a ≡ true = ok .definitions d (lookup-member owner form d e .0) .attributes a i in
-      subst (λ (z : Bytes). isName z ≡ true) q (and-split (storedName (a .name)) (isValue w (a .value) && isFill (a .sort) (a .value)) g .0)
+      subst (λ (z : Bytes). isName z ≡ true) q (attribute-named w a (ok .definitions d (lookup-member owner form d e .0) .attributes a i))
 
   -- ---- rows right below an element, and what is deeper
   abbrev rowsAt : ℕ → Bytes → Forest Row → List (Deep FlatRow)
@@ -118,7 +114,7 @@ module _ (f : Declared) (w : ℕ) (form : Form) (says : Declares f form) (ok : W
       ap (λ (z : Bytes). documentRows f w k (o ∷ others) true 0 z) (text-start f o others rows n) ∙ start-read f w k o others (textOfRows f (o ∷ others) false rows) q ∙ h
 
   attribute-below : (owner : Bytes) (d : Definition) (others : List ℕ) (n v : Bytes) (t : Forest Row) (more : List (Deep FlatRow)) (k : ℕ) → lookup owner form ≡ some d
-      → List·Memᴰ n (map attributeName (d .attributes)) → length v ≤ w → ReadsBelow owner others true t more (k + 1) → ReadsBelow owner others true (tree (rowAs k attribute n v) bare t) more k
+      → List·Memᴰ n (map attributeName (d .attributes)) → length v ≤ w → ReadsBelow owner others true t more (k + 1) → ReadsBelow owner others true (tree (rowOfParts k attribute n v) bare t) more k
   unfolding rowsIn
   attribute-below owner d others n v t more k e m l h =
       let o : ℕ = indexOf owner form in
@@ -130,13 +126,13 @@ module _ (f : Declared) (w : ℕ) (form : Form) (says : Declares f form) (ok : W
       let count : (k + 1) + rowsIn t ≡ k + suc (0 + rowsIn t) = omega arith in
       ap (λ (z : Bytes). documentRows f w k (o ∷ others) true 0 z)
       (text-attribute f (o ∷ others) x (after ++ more) (omega arith) true refl ∙ ap (λ (z : Bytes). 32 ∷ (z ++ (61 ∷ 34 ∷ (escape v ++ (34 ∷ rest))))) (attribute-name-is owner n d e m))
-      ∙ attribute-read f w k o others n v rest i (attribute-named owner n d e m) l (place .place) (place .there)
+      ∙ attribute-read f w k o others n v rest i (owned-named owner n d e m) l (place .place) (place .there)
       ∙ ap (λ (z : Option (List (Deep FlatRow))). withRows (x ∷ []) z) h
       ∙ with-append (x ∷ []) after (documentRows f w ((k + 1) + rowsIn t) (o ∷ others) false 0 (textOfRows f (o ∷ others) false more))
       ∙ ap (λ (j : ℕ). withRows (x ∷ after) (documentRows f w j (o ∷ others) false 0 (textOfRows f (o ∷ others) false more))) count
 
   text-below : (owner : Bytes) (others : List ℕ) (v : Bytes) (more : List (Deep FlatRow)) (k : ℕ) → eqb (kindOfDefinition (indexOf owner form) (f .definitions)) 1 ≡ true → length v ≤ w
-      → Shallow (suc (length others)) more → ReadsBelow owner others true (tree (rowAs k text [] v) bare bare) more k
+      → Ends (suc (length others)) more → ReadsBelow owner others true (tree (rowOfParts k text [] v) bare bare) more k
   unfolding rowsIn
   text-below owner others v more k q l short =
       let o : ℕ = indexOf owner form in
@@ -150,7 +146,7 @@ module _ (f : Declared) (w : ℕ) (form : Form) (says : Declares f form) (ok : W
 
   -- from a start tag's name on to behind the end tag, with the rows `later` after it
   element-whole : (opened : List ℕ) (n : Bytes) (d : Definition) (b : Forest Row) (later : List (Deep FlatRow)) (k : ℕ) → lookup n form ≡ some d → length opened ≤ 64
-      → Shallow (suc (length opened)) later → ReadsBelow n opened true b later (k + 1)
+      → Ends (suc (length opened)) later → ReadsBelow n opened true b later (k + 1)
       → documentRows f w k opened false 0 (textOfRows f opened false (rowOf 1 (length opened) (indexOf n form) k [] ∷ (rowsAt (suc (length opened)) n b ++ later)))
       ≡ withRows (rowOf 1 (length opened) (indexOf n form) k [] ∷ rowsAt (suc (length opened)) n b) (documentRows f w (k + 1 + rowsIn b) opened false 0 (textOfRows f opened false later))
   element-whole opened n d b later k e l short h =
@@ -160,7 +156,7 @@ module _ (f : Declared) (w : ℕ) (form : Form) (says : Declares f form) (ok : W
       let inner : Bytes = textOfRows f (i ∷ opened) true (below ++ later) in
       let behind : Option (List (Deep FlatRow)) = documentRows f w (k + 1 + rowsIn b) opened false 0 (textOfRows f opened false later) in
       ap (λ (z : Bytes). documentRows f w k opened false 0 z) (text-element f opened x (below ++ later) (omega arith) false refl ∙ ap (λ (z : Bytes). 60 ∷ (z ++ inner)) (name-is n d e))
-      ∙ element-read f w k opened n inner i (definition-named n d e) (text-stops f i opened (below ++ later)) (omega arith) (place-is n) (place-less n d e)
+      ∙ element-read f w k opened n inner i (found-named w form ok n d e) (text-stops f i opened (below ++ later)) (omega arith) (place-is n) (place-less n d e)
       ∙ ap (λ (z : Option (List (Deep FlatRow))). withRows (x ∷ []) z)
       (h
       ∙ ap (λ (z : Option (List (Deep FlatRow))). withRows below z)
@@ -169,9 +165,9 @@ module _ (f : Declared) (w : ℕ) (form : Form) (says : Declares f form) (ok : W
       ∙ with-append (x ∷ []) below behind
 
   element-below : (owner : Bytes) (others : List ℕ) (n : Bytes) (d : Definition) (b t : Forest Row) (more : List (Deep FlatRow)) (k : ℕ) → lookup n form ≡ some d → suc (length others) ≤ 64
-      → Shallow (suc (length others)) more → ReadsBelow n (indexOf owner form ∷ others) true b (rowsAt (suc (length others)) owner t ++ more) (k + 1)
+      → Ends (suc (length others)) more → ReadsBelow n (indexOf owner form ∷ others) true b (rowsAt (suc (length others)) owner t ++ more) (k + 1)
       → ReadsBelow owner others false t more (k + 1 + rowsIn b)
-      → ReadsBelow owner others false (tree (rowAs k element n []) b t) more k
+      → ReadsBelow owner others false (tree (rowOfParts k element n []) b t) more k
   unfolding rowsIn
   element-below owner others n d b t more k e l short h g =
       let opened : List ℕ = indexOf owner form ∷ others in
@@ -180,7 +176,7 @@ module _ (f : Declared) (w : ℕ) (form : Form) (says : Declares f form) (ok : W
       let after : List (Deep FlatRow) = rowsAt (suc (length others)) owner t in
       let count : (k + 1 + rowsIn b) + rowsIn t ≡ k + suc (rowsIn b + rowsIn t) = omega arith in
       ap (λ (z : List (Deep FlatRow)). documentRows f w k opened false 0 (textOfRows f opened false (x ∷ z))) (append-assoc below after more)
-      ∙ element-whole opened n d b (after ++ more) k e l (shallow-after (suc (length others)) (indexed form owner t) more short) h
+      ∙ element-whole opened n d b (after ++ more) k e l (ends-after (suc (length others)) (indexed form owner t) more short) h
       ∙ ap (λ (z : Option (List (Deep FlatRow))). withRows (x ∷ below) z) g
       ∙ with-append (x ∷ below) after (documentRows f w ((k + 1 + rowsIn b) + rowsIn t) opened false 0 (textOfRows f opened false more))
       ∙ ap (λ (j : ℕ). withRows (x ∷ (below ++ after)) (documentRows f w j opened false 0 (textOfRows f opened false more))) count
@@ -190,14 +186,14 @@ module _ (f : Declared) (w : ℕ) (form : Form) (says : Declares f form) (ok : W
     pub found : lookup owner form ≡ some d
     pub deep : Every (λ x. x .depth ≤ 64) (rowsAt (suc (length others)) owner g)
     pub counted : Counted k g
-    pub short : Shallow (suc (length others)) more
+    pub short : Ends (suc (length others)) more
 
   record BothBelow (g : Forest Row) : Type 0 where
     pub closed : (owner : Bytes) (d : Definition) (others : List ℕ) (k : ℕ) (more : List (Deep FlatRow)) → At owner d others k g more → Kids d false (heads g) → ReadsBelow owner others false g more k
     pub opened : (owner : Bytes) (d : Definition) (others : List ℕ) (k : ℕ) (more : List (Deep FlatRow)) → At owner d others k g more → Kids d true (heads g) → ReadsBelow owner others true g more k
 
   -- the first row after an ended start tag is an element
-  follows-closed : (owner : Bytes) (d : Definition) (others : List ℕ) (g : Forest Row) (more : List (Deep FlatRow)) → Shallow (suc (length others)) more
+  follows-closed : (owner : Bytes) (d : Definition) (others : List ℕ) (g : Forest Row) (more : List (Deep FlatRow)) → Ends (suc (length others)) more
       → {rs : List Row} → rs ≡ heads g → Kids d false rs → Follows (indexOf owner form ∷ others) false (rowsAt (suc (length others)) owner g ++ more)
   follows-closed owner d others bare [] l e n = tt
   follows-closed owner d others bare (x ∷ xs) l e n = record { depth = omega arith; sort = λ a b. absurd (let z : ⊥ = omega arith in z) }
@@ -219,9 +215,9 @@ module _ (f : Declared) (w : ℕ) (form : Form) (says : Declares f form) (ok : W
           let below : List (Deep FlatRow) = rowsAt (suc (suc (length others))) (r .name) b in
           let after : List (Deep FlatRow) = rowsAt (suc (length others)) owner t in
           let none : r .value ≡ [] = none-nil (r .value) (rw s at v) in
-          let is : tree r b t ≡ tree (rowAs k element (r .name) []) b t = λ i. tree (record { serial = n₀ i; sort = s i; name = r .name; value = none i }) b t in
+          let is : tree r b t ≡ tree (rowOfParts k element (r .name) []) b t = λ i. tree (record { serial = n₀ i; sort = s i; name = r .name; value = none i }) b t in
           let in-b : At (r .name) d′ (indexOf owner form ∷ others) (k + 1) b (after ++ more) =
-          record { found = found; deep = every-left (λ x. x .depth ≤ 64) below after deep; counted = n₁; short = shallow-after (suc (length others)) (indexed form owner t) more (at .short) } in
+          record { found = found; deep = every-left (λ x. x .depth ≤ 64) below after deep; counted = n₁; short = ends-after (suc (length others)) (indexed form owner t) more (at .short) } in
           let in-t : At owner d others (k + 1 + rowsIn b) t more = record { found = at .found; deep = every-right (λ x. x .depth ≤ 64) below after deep; counted = n₂; short = at .short } in
           let read-b = x .opened (r .name) d′ (indexOf owner form ∷ others) (k + 1) (after ++ more) in-b (element-rows version d′ (heads b) rows) in
           let read-t = y .closed owner d others (k + 1 + rowsIn b) more in-t (subst (λ (z : List Row). Kids d false z) (tail-eq-of-cons-eq e) ks) in
@@ -237,7 +233,7 @@ module _ (f : Declared) (w : ℕ) (form : Form) (says : Declares f form) (ok : W
           let (n₀, n₁, n₂) = at .counted in
           let few : rowsIn b ≡ 0 = ap rowsIn leaf in
           let count : k + 1 + rowsIn b ≡ k + 1 = omega arith in
-          let is : tree r b t ≡ tree (rowAs k attribute (r .name) (r .value)) bare t = λ i. tree (record { serial = n₀ i; sort = s i; name = r .name; value = r .value }) (leaf i) t in
+          let is : tree r b t ≡ tree (rowOfParts k attribute (r .name) (r .value)) bare t = λ i. tree (record { serial = n₀ i; sort = s i; name = r .name; value = r .value }) (leaf i) t in
           let owned : List·Memᴰ (r .name) (map attributeName (d .attributes)) = subst (λ (z : Row). List·Memᴰ (z .name) (map attributeName (d .attributes))) same m in
           let deep : Every (λ x. x .depth ≤ 64) (rowsAt (suc (length others)) owner t) = every-right (λ x. x .depth ≤ 64) (rowsAt (suc (suc (length others))) (r .name) b) _ (at .deep .1) in
           let in-t : At owner d others (k + 1) t more = record { found = at .found; deep = deep; counted = subst (λ (j : ℕ). Counted j t) count n₂; short = at .short } in
@@ -249,7 +245,7 @@ module _ (f : Declared) (w : ℕ) (form : Form) (says : Declares f form) (ok : W
           let unnamed : (isValue w (r .value) && isNone (r .name)) ≡ true = rw s at v in
           let name : r .name ≡ [] = none-nil (r .name) (and-split (isValue w (r .value)) (isNone (r .name)) unnamed .1) in
           let (n₀, n₁, n₂) = at .counted in
-          let is : tree r b t ≡ tree (rowAs k text [] (r .value)) bare bare =
+          let is : tree r b t ≡ tree (rowOfParts k text [] (r .value)) bare bare =
           λ i. tree (record { serial = n₀ i; sort = s i; name = name i; value = r .value }) (nothing-below b none i) (nothing-below t (sym (tail-eq-of-cons-eq e)) i) in
           subst (λ (z : Forest Row). ReadsBelow owner others true z more k) (sym is) (text-below owner others (r .value) more k (kind-is owner d (at .found) ∙ h) (laid-value w r v) (at .short))
       opened-tree e (start-ended h ks) =
@@ -284,7 +280,7 @@ module _ (f : Declared) (w : ℕ) (form : Form) (says : Declares f form) (ok : W
         let after : List (Deep FlatRow) = rowsAt 0 [] t in
         let x : Deep FlatRow = rowOf 1 0 (indexOf (r .name) form) k [] in
         let none : r .value ≡ [] = none-nil (r .value) (rw s at v) in
-        let is : tree r b t ≡ tree (rowAs k element (r .name) []) b t = λ i. tree (record { serial = n₀ i; sort = s i; name = r .name; value = none i }) b t in
+        let is : tree r b t ≡ tree (rowOfParts k element (r .name) []) b t = λ i. tree (record { serial = n₀ i; sort = s i; name = r .name; value = none i }) b t in
         let in-b : At (r .name) d [] (k + 1) b after = record { found = found; deep = every-left (λ x. x .depth ≤ 64) below after deep; counted = n₁; short = shallow-root (indexed form [] t) } in
         let read-b = both-below b c₀ v₀ .opened (r .name) d [] (k + 1) after in-b (element-rows version d (heads b) rows) in
         let read-t = documents-read t (k + 1 + rowsIn b) c₁ v₁ (λ u m. q u (List·Memᴰ·tail m)) (every-right (λ x. x .depth ≤ 64) below after deep) n₂ in

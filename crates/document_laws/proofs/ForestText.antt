@@ -12,10 +12,11 @@ use Rattle.rules.specs.Preorder.{Deep, preorder}
 use Rattle.rules.specs.Layout.{FlatRow}
 use Rattle.rules.specs.Decode.{nameAt, rowSortOf, rowName, readRows}
 use Rattle.rules.specs.Print.{Tokens, escape, rowTokens, documentLines}
+use Rattle.rules.proofs.PreorderLaws.{Ends, ends-after}
 use Rattle.rules.proofs.BooleanLaws.{concat-append}
 use Rattle.document_tokens.specs.Tokens.{Declared, declaredNames}
 use Rattle.document_laws.specs.RowsText.{startEnd, attributeNamesIn, textOfRows}
-use Rattle.document_laws.proofs.RowsTextLaws.{Shallow, text-end, text-element, text-attribute, text-content}
+use Rattle.document_laws.proofs.RowsTextLaws.{text-end, text-element, text-attribute, text-content}
 
 -- ---- tokens before a rest
 module _ (sign : Bytes) (r : Row) (b t : Forest Row) (z : Bytes) where
@@ -61,12 +62,7 @@ element-apart e = let z : _≡_ {A = ℕ} 0 1 = cc in omega arith
 text-apart : element ≡ text → ⊥
 text-apart e = let z : _≡_ {A = ℕ} 0 1 = cc in omega arith
 
-pub shallow-after : (d : ℕ) (t : Forest FlatRow) (more : List (Deep FlatRow)) → Shallow d more → Shallow (suc d) (preorder d t ++ more)
-shallow-after d bare [] l = tt
-shallow-after d bare (x ∷ xs) l = omega arith
-shallow-after d (tree r b t) more l = omega arith
-
-pub shallow-root : (t : Forest FlatRow) → Shallow 1 (preorder 0 t)
+pub shallow-root : (t : Forest FlatRow) → Ends 1 (preorder 0 t)
 shallow-root bare = tt
 shallow-root (tree r b t) = omega arith
 
@@ -85,20 +81,20 @@ module _ (f : Declared) where
   Printed o others tag g more =
       textOfRows f (o ∷ others) tag (preorder (suc (length others)) g ++ more) ≡ concat (rowTokens (startEnd tag) (named g)) ++ textOfRows f (o ∷ others) false more
 
-  nothing-left : (o : ℕ) (others : List ℕ) (tag : Bool) (more : List (Deep FlatRow)) → Shallow (suc (length others)) more → Printed o others tag bare more
+  nothing-left : (o : ℕ) (others : List ℕ) (tag : Bool) (more : List (Deep FlatRow)) → Ends (suc (length others)) more → Printed o others tag bare more
   nothing-left o others tag more l = rw (text-end f o others tag more l, text-end f o others false more l) (simp append-assoc)
 
   row-left : (o : ℕ) (others : List ℕ) (tag : Bool) (r : FlatRow) (b t : Forest FlatRow) (more : List (Deep FlatRow))
       → ((rowSortOf (r .sort) ≡ element → ⊥) → b ≡ bare)
-      → ((i : ℕ) (rows : List (Deep FlatRow)) → Shallow (suc (suc (length others))) rows → Printed i (o ∷ others) true b rows)
+      → ((i : ℕ) (rows : List (Deep FlatRow)) → Ends (suc (suc (length others))) rows → Printed i (o ∷ others) true b rows)
       → ((u : Bool) → Printed o others u t more)
-      → Shallow (suc (length others)) more
+      → Ends (suc (length others)) more
       → (s : RowSort) → rowSortOf (r .sort) ≡ s → Printed o others tag (tree r b t) more
   row-left o others tag r b t more leaf below after l element e =
       let later : List (Deep FlatRow) = preorder (suc (length others)) t ++ more in
       let i : ℕ = r .index in
       let n : Bytes = nameAt i (declaredNames f) in
-      let short : Shallow (suc (suc (length others))) later = shallow-after (suc (length others)) t more l in
+      let short : Ends (suc (suc (length others))) later = ends-after (suc (length others)) t more l in
       let is : rowRead r .name ≡ n = ap (λ (s : RowSort). rowName (declaredNames f) (attributeNamesIn f) s i) e in
       let ended : textOfRows f (i ∷ o ∷ others) false later ≡ 60 ∷ 47 ∷ (n ++ (62 ∷ textOfRows f (o ∷ others) false later)) =
       text-end f i (o ∷ others) false later short ∙ ap (λ (z : Bytes). 60 ∷ 47 ∷ z) (append-assoc n (62 ∷ []) (textOfRows f (o ∷ others) false later)) in
@@ -117,7 +113,7 @@ module _ (f : Declared) where
       ∙ rw (after false) refl
       ∙ sym (text-printed (startEnd tag) (rowRead r) bare (named t) (textOfRows f (o ∷ others) false more) e))
 
-  pub rows-printed : (g : Forest FlatRow) → Leaves g → (o : ℕ) (others : List ℕ) (tag : Bool) (more : List (Deep FlatRow)) → Shallow (suc (length others)) more → Printed o others tag g more
+  pub rows-printed : (g : Forest FlatRow) → Leaves g → (o : ℕ) (others : List ℕ) (tag : Bool) (more : List (Deep FlatRow)) → Ends (suc (length others)) more → Printed o others tag g more
   unfolding Leaves
   rows-printed bare h o others tag more l = nothing-left o others tag more l
   rows-printed (tree r b t) (leaf, h, k) o others tag more l =

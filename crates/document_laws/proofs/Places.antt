@@ -13,16 +13,11 @@ use borrow.Author.Tests.{eq-eqb, ne-eqb}
 use Rattle.rules.specs.Bytes.{Bytes, same, bytes}
 use Rattle.rules.specs.Store.{Attribute, Definition, Form}
 use Rattle.rules.specs.Layout.{FlatAttribute, indexOf, indexIn, attributeIndex, kindCode, flatDefinition, ownAttributes, allAttributes}
-use Rattle.rules.specs.Decode.{flatName}
 use Rattle.rules.specs.WellFormed.{definitionName, attributeName, lookup}
 use Rattle.declaration_scan.specs.Declared.{placeAmong}
 use Rattle.document_tokens.specs.Tokens.{kindOfDefinition, attributeAmong}
 
 -- ---- definitions
-pub names-flat : (form fs : Form) → map flatName (map (flatDefinition form) fs) ≡ map definitionName fs
-names-flat form [] = refl
-names-flat form (d ∷ fs) = ap (λ (z : List Bytes). d .name ∷ z) (names-flat form fs)
-
 pub place-index : (n : Bytes) (form : Form) → placeAmong n (map definitionName form) ≡ indexOf n form
 unfolding placeAmong
 place-index n [] = refl

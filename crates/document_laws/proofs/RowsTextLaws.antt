@@ -11,17 +11,13 @@ use Rattle.rules.specs.Bytes.{Bytes}
 use Rattle.rules.specs.Store.{RowSort, element, attribute, text}
 use Rattle.rules.specs.Preorder.{Deep}
 use Rattle.rules.specs.Layout.{FlatRow}
-use Rattle.rules.specs.WellFormed.{inName}
 use Rattle.rules.specs.Decode.{rowSortOf, nameAt}
 use Rattle.rules.specs.Print.{escape}
+use Rattle.rules.proofs.PreorderLaws.{Ends}
 use Rattle.reading_rules.proofs.Models.{NameStops}
+use Rattle.reading_rules.proofs.Declarations.{name-stops}
 use Rattle.document_tokens.specs.Tokens.{Declared, declaredNames, endTag}
 use Rattle.document_laws.specs.RowsText.{startEnd, endTags, openedAbove, attributeNamesIn, textOfRow, textOfRows}
-
--- the first row is less deep than n
-abbrev pub Shallow : ℕ → List (Deep FlatRow) → Type 0
-Shallow n [] = Unit {0}
-Shallow n (x ∷ xs) = x .depth < n
 
 -- the first row is no deeper than what is opened, and an element where it is as deep and the start tag is ended
 pub record Next (opened : List ℕ) (tag : Bool) (x : Deep FlatRow) : Type 0 where
@@ -31,9 +27,6 @@ pub record Next (opened : List ℕ) (tag : Bool) (x : Deep FlatRow) : Type 0 whe
 abbrev pub Follows : List ℕ → Bool → List (Deep FlatRow) → Type 0
 Follows opened tag [] = Unit {0}
 Follows opened tag (x ∷ xs) = Next opened tag x
-
-stops : (x : ℕ) (r : Bytes) → inName x ≡ false → NameStops (x ∷ r)
-stops x r h = record { head = x; tail = r; is = refl; name = h }
 
 -- ---- a row by its sort
 module _ (f : Declared) (opened : List ℕ) (tag : Bool) (r : FlatRow) (rest : List ℕ → Bool → Bytes) where
@@ -95,7 +88,7 @@ unfolding textOfRows endTags
 ends-none f [] = refl
 ends-none f (o ∷ others) = refl
 
-pub text-end : (f : Declared) (o : ℕ) (others : List ℕ) (tag : Bool) (rows : List (Deep FlatRow)) → Shallow (suc (length others)) rows
+pub text-end : (f : Declared) (o : ℕ) (others : List ℕ) (tag : Bool) (rows : List (Deep FlatRow)) → Ends (suc (length others)) rows
     → textOfRows f (o ∷ others) tag rows ≡ startEnd tag ++ (endTag f o (length others) ++ textOfRows f others false rows)
 text-end f o others tag [] l = rw (ends-none f others) (last f o others tag)
   where
@@ -134,17 +127,17 @@ module _ (f : Declared) (opened : List ℕ) (x : Deep FlatRow) (xs : List (Deep 
 
 -- after the name in a start tag no byte of a name comes
 pub text-stops : (f : Declared) (o : ℕ) (others : List ℕ) (rows : List (Deep FlatRow)) → NameStops (textOfRows f (o ∷ others) true rows)
-text-stops f o others [] = unfold textOfRows in stops 62 _ refl
+text-stops f o others [] = unfold textOfRows in name-stops 62 _ refl
 text-stops f o others (x ∷ xs) = by (ltb (x .depth) (suc (length others))) refl
   where
     by : (b : Bool) → ltb (x .depth) (suc (length others)) ≡ b → NameStops (textOfRows f (o ∷ others) true (x ∷ xs))
-    by true e = rw (text-shallow f (o ∷ others) true x xs (ltb-true (x .depth) (suc (length others)) e)) (stops 62 _ refl)
+    by true e = rw (text-shallow f (o ∷ others) true x xs (ltb-true (x .depth) (suc (length others)) e)) (name-stops 62 _ refl)
     by false e = sorted (rowSortOf (x .row .sort)) refl
       where
         deep : suc (length others) ≤ x .depth
         deep = ltb-false (x .depth) (suc (length others)) e
 
         sorted : (s : RowSort) → rowSortOf (x .row .sort) ≡ s → NameStops (textOfRows f (o ∷ others) true (x ∷ xs))
-        sorted element q = rw (text-element f (o ∷ others) x xs deep true q) (stops 62 _ refl)
-        sorted attribute q = rw (text-attribute f (o ∷ others) x xs deep true q) (stops 32 _ refl)
-        sorted text q = rw (text-content f (o ∷ others) x xs deep true q) (stops 62 _ refl)
+        sorted element q = rw (text-element f (o ∷ others) x xs deep true q) (name-stops 62 _ refl)
+        sorted attribute q = rw (text-attribute f (o ∷ others) x xs deep true q) (name-stops 32 _ refl)
+        sorted text q = rw (text-content f (o ∷ others) x xs deep true q) (name-stops 62 _ refl)

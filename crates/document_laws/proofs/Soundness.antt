@@ -4,7 +4,7 @@ use Prim.Native.Nat.{ℕ}
 use mathlib.Core.Path.{_≡_, refl, sym, ap, _∙_}
 use mathlib.Core.Bool.{true, false}
 use mathlib.Core.Option.{some}
-use mathlib.Core.List.{[], map, cons≢nil, List·Memᴰ·head, List·Memᴰ·tail}
+use mathlib.Core.List.{[], map, List·Memᴰ·head, List·Memᴰ·tail}
 use Rattle.rules.specs.Bytes.{Bytes}
 use Rattle.rules.specs.Store.{Form, RowSort, element, attribute, text, Row, Forest, bare, tree, Store, heads}
 use Rattle.rules.specs.Preorder.{preorder}
@@ -13,10 +13,11 @@ use Rattle.rules.specs.Decode.{rowSortOf, readRows, flatName, flatAttributeName
 use Rattle.rules.specs.Conforming.{EveryRow, Sorted, RowConforms}
 use Rattle.rules.specs.Passing.{Good, good, readStore}
 use Rattle.rules.proofs.PreorderLaws.{build-preorder}
-use Rattle.rules.proofs.DecodeLaws.{unflat-flat, good-known, good-found}
+use Rattle.rules.proofs.DecodeLaws.{row-code, unflat-flat, good-known, good-found}
 use Rattle.rules.proofs.PassingLaws.{good-is}
 use Rattle.lookup.specs.Bodies.{bodiesOf}
 use Rattle.lookup.proofs.Laws.{bodies-flat}
+use Rattle.reading_rules.proofs.Shapes.{nothing-below}
 use Rattle.document_tokens.specs.Tokens.{Declared, declaredIn, declaredNames, documentRows}
 use Rattle.document_laws.specs.RowsText.{attributeNamesIn, textOfRows}
 use Rattle.document_laws.specs.Declares.{Declares, textOfDocuments}
@@ -30,15 +31,6 @@ store-declares bs s e =
     record { definitions = ap (λ (z : FlatStore). z .definitions) flat-is; attributes = ap (λ (z : FlatStore). z .attributes) flat-is }
 
 -- ---- the rows of conforming documents
-pub nothing-below : (g : Forest Row) → heads g ≡ [] → g ≡ bare
-nothing-below bare e = refl
-nothing-below (tree r b t) e = absurd (cons≢nil e)
-
-pub row-code : (s : RowSort) → rowSortOf (rowCode s) ≡ s
-row-code element = refl
-row-code attribute = refl
-row-code text = refl
-
 leaf : (version : ℕ) (form : Form) (r : Row) (b : Forest Row) → RowConforms version form r (heads b) → (rowSortOf (rowCode (r .sort)) ≡ element → ⊥) → indexed form (r .name) b ≡ bare
 leaf version form r b c h = by (r .sort) refl c
   where

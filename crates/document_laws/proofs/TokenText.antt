@@ -23,8 +23,9 @@ use Rattle.text_scan.proofs.ScanLaws.{leading-trailing, trailing-drop, starts-s
 use Rattle.declaration_scan.specs.Declared.{placeAmong}
 use Rattle.document_tokens.specs.Tokens.{Declared, declaredNames, kindOfDefinition, attributeAmong, Token, shortValue, elementToken, attributeToken, textToken, startEndToken, endTag, endToken}
 use Rattle.document_tokens.specs.Tokens.{noToken, tokenAt, rowOfToken, openAfter, tagAfter, withRows, documentRows}
+use Rattle.rules.proofs.PreorderLaws.{Ends}
 use Rattle.document_laws.specs.RowsText.{attributeNamesIn, textOfRows}
-use Rattle.document_laws.proofs.RowsTextLaws.{Shallow, Follows, text-end, text-start, text-element, text-attribute, text-content}
+use Rattle.document_laws.proofs.RowsTextLaws.{Follows, text-end, text-start, text-element, text-attribute, text-content}
 
 -- ---- what is found has that very name
 pub place-name : (n : Bytes) (ns : List Bytes) → placeAmong n ns < length ns → nameAt (placeAmong n ns) ns ≡ n
@@ -159,7 +160,7 @@ module _ (f : Declared) (w : ℕ) where
         follows = follows-end rows (h .follows);
       }
     where
-      shallow : (rows : List (Deep FlatRow)) → Follows others false rows → Shallow (suc (length others)) rows
+      shallow : (rows : List (Deep FlatRow)) → Follows others false rows → Ends (suc (length others)) rows
       shallow [] n = tt
       shallow (y ∷ ys) n = omega arith
 

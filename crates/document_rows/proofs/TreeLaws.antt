@@ -11,20 +11,12 @@ use Rattle.rules.specs.Bytes.{Bytes, eqb-of}
 use Rattle.rules.specs.Store.{Form, Row, Forest, bare, tree, heads}
 use Rattle.rules.specs.Preorder.{Deep, preorder}
 use Rattle.rules.specs.Layout.{FlatRow, rowCode, indexed}
+use Rattle.rules.proofs.PreorderLaws.{Ends, ends-after}
 use Rattle.change_laws.proofs.RowEdits.{keep}
 use Rattle.change_laws.proofs.Rowwise.{Standing}
 use Rattle.store_check.proofs.AttributeRows.{rowWritten}
 use Rattle.document_rows.specs.Finding.{children, Test, seek}
 use Rattle.document_rows.proofs.SuffixLaws.{seek-this, seek-other}
-
--- no row of depth d or more comes first
-abbrev pub Ends : ℕ → List (Deep FlatRow) → Type 0
-Ends d [] = Unit {0}
-Ends d (x ∷ xs) = x .depth < d
-
-ends-more : (d : ℕ) (xs : List (Deep FlatRow)) → Ends d xs → Ends (suc d) xs
-ends-more d [] e = tt
-ends-more d (x ∷ xs) e = omega arith
 
 -- ---- one row
 module _ (s d : ℕ) (x : Deep FlatRow) (xs : List (Deep FlatRow)) where
@@ -86,10 +78,6 @@ module _ (form : Form) where
           ∙ ap (λ (z : List FlatRow). rowWritten form owner r ∷ z) k ∙ rw (e, keep)
       by false e k = children-other s d x ((written (suc d) (r .name) c ++ written d owner t) ++ rest) (omega arith) (same false e) ∙ k ∙ rw (e, keep)
 
-  ends-after : (d : ℕ) (owner : Bytes) (t : Forest Row) (rest : List (Deep FlatRow)) → Ends d rest → Ends (suc d) (written d owner t ++ rest)
-  ends-after d owner bare rest h = ends-more d rest h
-  ends-after d owner (tree r c t) rest h = omega arith
-
   -- rows that begin with a row of the forest, those below it first
   pub record Located (f : Forest Row) (xs : List (Deep FlatRow)) : Type 0 where
     pub owner : Bytes
@@ -120,7 +108,7 @@ module _ (form : Form) where
         → Met f (seek p (written d owner f ++ rest)) ⊎ (Unmet f × (seek p (written d owner f ++ rest) ≡ seek p rest))
     seek-tree d owner bare rest h = inr (λ r b i. absurd i, refl)
     seek-tree d owner (tree r c t) rest h =
-        by (q r (heads c)) refl (seek-tree (suc d) (r .name) c (written d owner t ++ rest) (ends-after d owner t rest h)) (seek-tree d owner t rest h)
+        by (q r (heads c)) refl (seek-tree (suc d) (r .name) c (written d owner t ++ rest) (ends-after d (indexed form owner t) rest h)) (seek-tree d owner t rest h)
       where
         x : Deep FlatRow
         x = record { depth = d; row = rowWritten form owner r }
@@ -133,7 +121,7 @@ module _ (form : Form) where
 
         test : p (rowWritten form owner r) (children 1 (suc d) more) ≡ q r (heads c)
         test =
-            ap (p (rowWritten form owner r)) (children-tree 1 (suc d) (r .name) c (written d owner t ++ rest) (ends-after d owner t rest h))
+            ap (p (rowWritten form owner r)) (children-tree 1 (suc d) (r .name) c (written d owner t ++ rest) (ends-after d (indexed form owner t) rest h))
             ∙ same owner r (heads c)
 
         lift : (g : Forest Row) → ((s : Row) (b : Forest Row) → Standing g s b → Standing (tree r c t) s b) → {xs ys : List (Deep FlatRow)} → xs ≡ ys → Met g ys → Met (tree r c t) xs

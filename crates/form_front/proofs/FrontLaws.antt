@@ -2,29 +2,16 @@
 use Prim.Native.Nat.{ℕ, _<_, _≤_}
 use native.Mathlib.Omega.{arith}
 use native.Mathlib.Nat.{zero-add}
-use mathlib.Core.Path.{_≡_, refl, sym, ap, _∙_}
-use mathlib.Core.Bool.{Bool, true, false, _&&_, false≢true}
-use mathlib.Core.Option.{Option, none, some}
-use lib.Dec.{leb}
+use mathlib.Core.Path.{_≡_, sym, ap, _∙_}
+use mathlib.Core.Bool.{Bool, false, _&&_, false≢true}
 use lib.ListN.{length, take, length-take}
 use lib.Seq.{length-sets, sets-eq, take-at}
 use borrow.Author.Tests.{le-leb, lt-leb}
 use Rattle.rules.specs.Bytes.{Bytes}
-use Rattle.rules.specs.Store.{Store}
-use Rattle.rules.specs.WellFormed.{isThere}
-use Rattle.rules.specs.Passing.{readStore, passes}
 use Rattle.codec.specs.Laid.{Laid}
-use Rattle.printing.specs.Texts.{Within, textOf}
-use Rattle.printing.proofs.FormLaws.{passing-within}
+use Rattle.printing.specs.Texts.{textOf}
 use Rattle.text_scan.specs.Scan.{startsWith}
 use Rattle.form_front.specs.Front.{formTextRoom, frontStands, FrontOf}
-
-pub within-counts : (bs : Bytes) → passes bs ≡ true → Within bs
-within-counts bs e = by (readStore bs) refl
-  where
-    by : (o : Option Store) → readStore bs ≡ o → Within bs
-    by none q = absurd (false≢true (sym (ap isThere q) ∙ e))
-    by (some s) q = passing-within bs s q
 
 module _ (bs txt : Bytes) {small small′ : Bytes} {n : ℕ} (laid : Laid (textOf bs) small 0 n small′) where
   long : n ≡ length (textOf bs)

@@ -34,7 +34,8 @@ use Rattle.store_check.proofs.StringChecks.{Headed, laid-in, passes-in, same-fo
 use Rattle.lookup.specs.Bodies.{bodiesOf}
 use Rattle.layout.specs.Bodies.{widthOf, definitionsIn, particlesIn}
 use Rattle.store_laws.specs.Stores.{storeIn}
-use Rattle.store_check.proofs.StoreFacts.{formIn, byIndex, headed-of}
+use Rattle.store_check.specs.Check.{byIndex}
+use Rattle.store_check.proofs.StoreFacts.{formIn, headed-of}
 
 module _ {w n : ℕ} {defs : Bytes} {p : ℕ} {parts : Bytes} {a : ℕ} {attrs : Bytes} (laid : Laid w n defs p parts a attrs) (x : FormPasses w n defs p parts a attrs) where
   abbrev f : FlatStore

@@ -20,7 +20,8 @@ use Rattle.store_check.proofs.FormLaws.{members-indexed, part-room}
 use Rattle.store_check.proofs.StringChecks.{Headed, laid-in, passes-in, same-form}
 use Rattle.store_check.proofs.IndexReads.{index-agrees}
 use Rattle.store_laws.specs.Stores.{storeIn}
-use Rattle.store_check.proofs.StoreFacts.{formIn, byIndex, headed-of, Whole, whole}
+use Rattle.store_check.specs.Check.{byIndex}
+use Rattle.store_check.proofs.StoreFacts.{formIn, headed-of, Whole, whole}
 
 -- ---- one part of the particles, read in two ways
 module _ (defs : Bytes) where

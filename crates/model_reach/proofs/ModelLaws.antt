@@ -24,7 +24,8 @@ use Rattle.store_check.proofs.IndexLaws.{namesOf, lookup-at, name-of}
 use Rattle.store_check.proofs.ElementReads.{same-names}
 use Rattle.store_laws.specs.Stores.{storeIn}
 use Rattle.layout.specs.Bodies.{Number, definitionsIn, particlesIn}
-use Rattle.store_check.proofs.StoreFacts.{formIn, byIndex}
+use Rattle.store_check.specs.Check.{byIndex}
+use Rattle.store_check.proofs.StoreFacts.{formIn}
 use Rattle.model_reach.specs.Reach.{standsInModel, comesRound}
 use Rattle.model_reach.proofs.FormFacts.{Reads}
 use Rattle.model_reach.proofs.ReachLaws.{avoided}

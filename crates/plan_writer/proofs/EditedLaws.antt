@@ -25,14 +25,14 @@ use Rattle.row_writer.proofs.WrittenLaws.{written-fitting, length-numbered}
 use Rattle.row_walk.specs.declared.Plan.{Plan}
 use Rattle.plan_writer.specs.Heads.{Heads}
 use Rattle.planned_rows.specs.Planned.{rowsAfter, plannedIn}
-use Rattle.store_laws.specs.Forms.{formRead, Forms}
+use Rattle.store_laws.specs.Forms.{formRead, reformed, Forms}
 use Rattle.planned_rows.specs.Walking.{walkFrom}
 use Rattle.store_limits.specs.Limits.{limitOf}
 use Rattle.store_laws.proofs.StoreLaws.{Holds, width-of-bodies}
 use Rattle.store_limits.proofs.WithinLaws.{Within, as-limits, limit-within}
 use Rattle.plan_writer.proofs.OrderLaws.{laid-before}
 use Rattle.store_laws.proofs.FormBytesLaws.{count-definitions, count-particles, count-attributes, Few, few-of, few-definitions, few-particles, few-attributes, form-short}
-use Rattle.store_laws.proofs.FormBytesLaws.{reformed, whole, ceilings-rows, reformed-length, reformed-bytes}
+use Rattle.store_laws.proofs.FormBytesLaws.{whole, ceilings-rows, reformed-length, reformed-bytes}
 use Rattle.layout.specs.Fields.{nextAt}
 use Rattle.store_laws.proofs.Encoded.{own-serial}
 

@@ -10,6 +10,7 @@ use Rattle.rules.specs.Bytes.{Bytes}
 use Rattle.rules.specs.Store.{Forest, bare, tree}
 use Rattle.rules.specs.Preorder.{Deep, preorder}
 use Rattle.rules.specs.Layout.{FlatRow}
+use Rattle.rules.proofs.PreorderLaws.{Ends, ends-after}
 use Rattle.row_walk.specs.declared.Which.{Which}
 use Rattle.row_walk.specs.declared.Which.the-variants.{Nothing, Everything, Ground, Elements, Attributes, Serial}
 use Rattle.row_walk.specs.declared.Plan.{Plan}
@@ -23,16 +24,6 @@ use Rattle.plans.proofs.SimulationLaws.{walk-taken}
 pub data Clear (p : Plan) (f : Forest FlatRow) : Type 0 where
   apart : NotNested (matches (p .above)) f → Clear p f
   everywhere : isEverything (p .above) ≡ true → p .fills ≡ false → Clear p f
-
--- no row comes next, or one of a depth less than d
-abbrev Shallow : ℕ → List (Deep FlatRow) → Type 0
-Shallow d [] = Unit {0}
-Shallow d (x ∷ xs) = x .depth < d
-
-shallow-preorder : (d : ℕ) (t : Forest FlatRow) (rest : List (Deep FlatRow)) → Shallow d rest → Shallow (suc d) (preorder d t ++ rest)
-shallow-preorder d bare [] h = tt
-shallow-preorder d bare (x ∷ rest) h = omega arith
-shallow-preorder d (tree r b t) rest h = omega arith
 
 -- what is open
 abbrev opened : ℕ → ℕ → Bool → Open
@@ -106,14 +97,14 @@ module _ (p : Plan) (v : Bytes) (fill : ℕ → List (Deep FlatRow)) where
       ∙ ap (λ (c : Bool). owed (c && o .due) (fill (rowDepth o)) ++ onRow (leftOpen c (o .below) (o .due)) x xs) q
 
   -- ---- a row taken is done with at the first row that is not deeper; the open row too, and its filling comes
-  done-taking : (k b : ℕ) (u : Bool) (rest : List (Deep FlatRow)) → Shallow k rest → walked p v fill (opened k b u) rest ≡ walked p v fill (opened 0 b u) rest
+  done-taking : (k b : ℕ) (u : Bool) (rest : List (Deep FlatRow)) → Ends k rest → walked p v fill (opened k b u) rest ≡ walked p v fill (opened 0 b u) rest
   unfolding walked
   done-taking k b u [] h = refl
   done-taking k b u (x ∷ rest) h =
       walk-row (opened k b u) x rest (ltb (suc (x .depth)) b) (ap (λ (c : Bool). ltb 0 k && c) (lt-leb k (x .depth) h) ∙ and-false (ltb 0 k)) refl
       ∙ sym (walk-row (opened 0 b u) x rest (ltb (suc (x .depth)) b) refl refl)
 
-  done-below : (d : ℕ) (u : Bool) (rest : List (Deep FlatRow)) → Shallow d rest → walked p v fill (opened 0 (suc d) u) rest ≡ owed u (fill d) ++ walked p v fill (opened 0 0 false) rest
+  done-below : (d : ℕ) (u : Bool) (rest : List (Deep FlatRow)) → Ends d rest → walked p v fill (opened 0 (suc d) u) rest ≡ owed u (fill d) ++ walked p v fill (opened 0 0 false) rest
   unfolding walked
   done-below d u [] h = ap (λ (e : ℕ). owed u (fill e)) (omega arith) ∙ sym (append-nil (owed u (fill d)))
   done-below d u (x ∷ rest) h =
@@ -174,7 +165,7 @@ module _ (p : Plan) (v : Bytes) (fill : ℕ → List (Deep FlatRow)) where
 
     -- of a row that closes nothing: the walk of it, of the rows below it and of those after it
     node : (b : ℕ) (u m : Bool) (rest z : List (Deep FlatRow)) → b ≤ suc d → isTaken p (opened 0 b u) (at d r) ≡ takenAt p sel due r → (u && eqb b (suc d)) ≡ due
-        → matches (p .above) r ≡ m → Shallow d rest → walked p v fill (opened 0 b u) (preorder d t ++ rest) ≡ treeWalk p v fill sel due d t ++ z
+        → matches (p .above) r ≡ m → Ends d rest → walked p v fill (opened 0 b u) (preorder d t ++ rest) ≡ treeWalk p v fill sel due d t ++ z
         → walked p v fill (openAfter b u m) (preorder (suc d) g ++ (preorder d t ++ rest)) ≡ treeWalk p v fill m (m && p .fills) (suc d) g ++ (others ++ z)
         → walked p v fill (opened 0 b u) (preorder d (tree r g t) ++ rest) ≡ treeWalk p v fill sel due d (tree r g t) ++ z
     node b u m rest z low tested owes one end skip keep =
@@ -192,7 +183,7 @@ module _ (p : Plan) (v : Bytes) (fill : ℕ → List (Deep FlatRow)) where
         by true q =
             row-taken (opened 0 b u) (at d r) (preorder (suc d) g ++ (preorder d t ++ rest)) (tested ∙ q)
             ∙ skipped d b u (suc d) g (preorder d t ++ rest) (omega arith)
-            ∙ done-taking (suc d) b u (preorder d t ++ rest) (shallow-preorder d t rest end)
+            ∙ done-taking (suc d) b u (preorder d t ++ rest) (ends-after d t rest end)
             ∙ skip
             ∙ ap (λ (l : List (Deep FlatRow)). l ++ z) (sym (walk-taken p v fill sel due d r g t q))
         by false q =
@@ -201,7 +192,7 @@ module _ (p : Plan) (v : Bytes) (fill : ℕ → List (Deep FlatRow)) where
             ∙ sym (tree-kept q z)
 
   -- ---- forests, by what is open: a row further up
-  walk-deeper : (d b : ℕ) (u : Bool) (f : Forest FlatRow) (rest : List (Deep FlatRow)) → b ≤ d → NoneOf (matches (p .above)) f → Shallow d rest
+  walk-deeper : (d b : ℕ) (u : Bool) (f : Forest FlatRow) (rest : List (Deep FlatRow)) → b ≤ d → NoneOf (matches (p .above)) f → Ends d rest
       → walked p v fill (opened 0 b u) (preorder d f ++ rest) ≡ treeWalk p v fill false false d f ++ walked p v fill (opened 0 b u) rest
   unfolding treeWalk
   walk-deeper d b u bare rest h none end = refl
@@ -212,14 +203,14 @@ module _ (p : Plan) (v : Bytes) (fill : ℕ → List (Deep FlatRow)) where
       (ap (λ (c : Bool). u && c) apart-is ∙ and-false u) other end (walk-deeper d b u t rest h beside end)
       (ap (λ (c : Bool). walked p v fill (opened 0 b (u && not (c && isLater (p .marks) (p .later) r))) (preorder (suc d) g ++ (preorder d t ++ rest))) apart-is
       ∙ ap (λ (c : Bool). walked p v fill (opened 0 b c) (preorder (suc d) g ++ (preorder d t ++ rest))) (and-true u)
-      ∙ walk-deeper (suc d) b u g (preorder d t ++ rest) (omega arith) inside (shallow-preorder d t rest end)
+      ∙ walk-deeper (suc d) b u g (preorder d t ++ rest) (omega arith) inside (ends-after d t rest end)
       ∙ ap (λ (l : List (Deep FlatRow)). treeWalk p v fill false false (suc d) g ++ l) (walk-deeper d b u t rest h beside end))
     where
       apart-is : eqb b (suc d) ≡ false
       apart-is = ne-eqb b (suc d) (λ e. omega arith)
 
   -- the row right above
-  walk-below : (d : ℕ) (u : Bool) (f : Forest FlatRow) (rest : List (Deep FlatRow)) → NoneOf (matches (p .above)) f → Shallow d rest
+  walk-below : (d : ℕ) (u : Bool) (f : Forest FlatRow) (rest : List (Deep FlatRow)) → NoneOf (matches (p .above)) f → Ends d rest
       → walked p v fill (opened 0 (suc d) u) (preorder d f ++ rest) ≡ treeWalk p v fill true u d f ++ walked p v fill (opened 0 0 false) rest
   unfolding treeWalk
   walk-below d u bare rest none end = done-below d u rest end
@@ -228,19 +219,19 @@ module _ (p : Plan) (v : Bytes) (fill : ℕ → List (Deep FlatRow)) where
       (ap (λ (c : Bool). ((isEverything (p .above) || c) && matches (p .takes) r) && not (p .keeps && u)) here)
       (ap (λ (c : Bool). u && c) here ∙ and-true u) other end (walk-below d u t rest beside end)
       (ap (λ (c : Bool). walked p v fill (opened 0 (suc d) (u && not (c && isLater (p .marks) (p .later) r))) (preorder (suc d) g ++ (preorder d t ++ rest))) here
-      ∙ walk-deeper (suc d) (suc d) (u && not (isLater (p .marks) (p .later) r)) g (preorder d t ++ rest) (omega arith) inside (shallow-preorder d t rest end)
+      ∙ walk-deeper (suc d) (suc d) (u && not (isLater (p .marks) (p .later) r)) g (preorder d t ++ rest) (omega arith) inside (ends-after d t rest end)
       ∙ ap (λ (l : List (Deep FlatRow)). treeWalk p v fill false false (suc d) g ++ l) (walk-below d (u && not (isLater (p .marks) (p .later) r)) t rest beside end))
     where
       here : eqb (suc d) (suc d) ≡ true
       here = eq-eqb (suc d) (suc d) refl
 
   -- none
-  walk-apart : (d : ℕ) (f : Forest FlatRow) (rest : List (Deep FlatRow)) → NotNested (matches (p .above)) f → Shallow d rest
+  walk-apart : (d : ℕ) (f : Forest FlatRow) (rest : List (Deep FlatRow)) → NotNested (matches (p .above)) f → Ends d rest
       → walked p v fill (opened 0 0 false) (preorder d f ++ rest) ≡ treeWalk p v fill false false d f ++ walked p v fill (opened 0 0 false) rest
   unfolding treeWalk
   walk-apart d bare rest a end = refl
   walk-apart d (tree r g t) rest (none, inside, beside) end =
-      by (matches (p .above) r) refl (walk-apart (suc d) g (preorder d t ++ rest) inside (shallow-preorder d t rest end)) (walk-apart d t rest beside end)
+      by (matches (p .above) r) refl (walk-apart (suc d) g (preorder d t ++ rest) inside (ends-after d t rest end)) (walk-apart d t rest beside end)
     where
       by : (m : Bool) → matches (p .above) r ≡ m
           → walked p v fill (opened 0 0 false) (preorder (suc d) g ++ (preorder d t ++ rest)) ≡ treeWalk p v fill false false (suc d) g ++ walked p v fill (opened 0 0 false) (preorder d t ++ rest)
@@ -249,7 +240,7 @@ module _ (p : Plan) (v : Bytes) (fill : ℕ → List (Deep FlatRow)) where
       by true q x y =
           node false false d r g t 0 false true rest (walked p v fill (opened 0 0 false) rest) (omega arith)
           (ap (λ (c : Bool). ((isEverything (p .above) || c) && matches (p .takes) r) && not (p .keeps && false)) (ne-eqb 0 (suc d) (λ e. omega arith))) refl q end y
-          (walk-below (suc d) (p .fills) g (preorder d t ++ rest) (none q) (shallow-preorder d t rest end)
+          (walk-below (suc d) (p .fills) g (preorder d t ++ rest) (none q) (ends-after d t rest end)
           ∙ ap (λ (l : List (Deep FlatRow)). treeWalk p v fill true (p .fills) (suc d) g ++ l) y)
       by false q x y =
           node false false d r g t 0 false false rest (walked p v fill (opened 0 0 false) rest) (omega arith)
@@ -258,7 +249,7 @@ module _ (p : Plan) (v : Bytes) (fill : ℕ → List (Deep FlatRow)) where
 
   -- every row is one of `above`, and none has a filling
   walk-everywhere : (d b : ℕ) (sel : Bool) (f : Forest FlatRow) (rest : List (Deep FlatRow)) → isEverything (p .above) ≡ true → p .fills ≡ false → b ≤ suc d
-      → walked p v fill (opened 0 b false) rest ≡ walked p v fill (opened 0 0 false) rest → Shallow d rest
+      → walked p v fill (opened 0 b false) rest ≡ walked p v fill (opened 0 0 false) rest → Ends d rest
       → walked p v fill (opened 0 b false) (preorder d f ++ rest) ≡ treeWalk p v fill sel false d f ++ walked p v fill (opened 0 0 false) rest
   unfolding treeWalk
   walk-everywhere d b sel bare rest e n low same end = same
@@ -267,8 +258,8 @@ module _ (p : Plan) (v : Bytes) (fill : ℕ → List (Deep FlatRow)) where
       (ap (λ (c : Bool). ((c || eqb b (suc d)) && matches (p .takes) r) && not (p .keeps && false)) e ∙ sym (ap (λ (c : Bool). ((c || sel) && matches (p .takes) r) && not (p .keeps && false)) e)) refl
       (everything-matches (p .above) e r) end (walk-everywhere d b sel t rest e n low same end)
       (ap (λ (c : Bool). walked p v fill (opened 0 (suc (suc d)) c) (preorder (suc d) g ++ (preorder d t ++ rest))) n
-      ∙ walk-everywhere (suc d) (suc (suc d)) true g (preorder d t ++ rest) e n (omega arith) (done-below (suc d) false (preorder d t ++ rest) (shallow-preorder d t rest end))
-      (shallow-preorder d t rest end)
+      ∙ walk-everywhere (suc d) (suc (suc d)) true g (preorder d t ++ rest) e n (omega arith) (done-below (suc d) false (preorder d t ++ rest) (ends-after d t rest end))
+      (ends-after d t rest end)
       ∙ ap₂ (λ (c : Bool) (l : List (Deep FlatRow)). treeWalk p v fill true c (suc d) g ++ l) (sym n) (walk-everywhere d 0 sel t rest e n (omega arith) refl end))
 
   -- ---- the documents

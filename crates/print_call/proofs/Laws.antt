@@ -16,7 +16,7 @@ use Rattle.rules.specs.Outcome.{refused, wrote, unlessRefused, onStore, Answers
 use Rattle.rules.specs.Print.{printed, tooLong, printOutcome}
 use Rattle.codec.specs.Laid.{Laid}
 use Rattle.printing.specs.Texts.{Within, textOf}
-use Rattle.printing.proofs.FormLaws.{text-is, passing-within}
+use Rattle.printing.proofs.FormLaws.{text-is, within-counts}
 use borrow.Author.Tests.{lt-ltb, le-ltb, not-true, not-false}
 
 print-bad : (bs : Bytes) (room : ℕ) → passes bs ≡ false → printOutcome bs room ≡ refused 1
@@ -37,12 +37,8 @@ print-good bs room e = by (readStore bs) refl
         ap (onStore (λ s. unlessRefused (tooLong room (printed s)) (printed s))) q
         ∙ ap (λ (w : Bytes). unlessRefused (tooLong room w) w) (sym (text-is bs s q))
 
-pub within-counts : (bs : Bytes) {r : Bool} → not r ≡ false → r ≡ passes bs → Within bs
-within-counts bs left e = by (readStore bs) refl
-  where
-    by : (o : Option Store) → readStore bs ≡ o → Within bs
-    by none q = absurd (false≢true (sym (ap isThere q) ∙ sym e ∙ not-false _ left))
-    by (some s) q = passing-within bs s q
+pub within-passed : (bs : Bytes) {r : Bool} → not r ≡ false → r ≡ passes bs → Within bs
+within-passed bs left e = within-counts bs (sym e ∙ not-false _ left)
 
 pub prints-bad : (bs : Bytes) (out : Bytes) {r : Bool} → not r ≡ true → r ≡ passes bs → Answers (printOutcome bs (length out)) out 1 0 out
 prints-bad bs out taken e = rw (print-bad bs (length out) (sym e ∙ not-true _ taken)) (record { number-is = refl; length-is = refl; buffer-is = refl })

@@ -7,7 +7,8 @@ use native.Mathlib.Numerals.{add-one}
 use lib.ListN.{length, take, drop}
 use native.Mathlib.Nat.{mul-add}
 use lib.Seq.{drop-drop, take-all}
-use mathlib.Core.Option.{some}
+use mathlib.Core.Bool.{true, false≢true}
+use mathlib.Core.Option.{Option, none, some}
 use Rattle.rules.specs.Bytes.{Bytes, ascii, concat}
 use Rattle.rules.specs.Preorder.{Deep, build}
 use Rattle.rules.specs.Layout.{definitionSize, particleSize, attributeSize, FlatParticle, FlatAttribute, FlatDefinition, FlatRow, rowSize, FlatStore}
@@ -15,8 +16,9 @@ use Rattle.rules.specs.Decode.{nameAt, contentOf, readMembers, ofOwner, readAtt
 use Rattle.rules.specs.Decode.{unflat, attributeCount, definitionCount, particleCount, rowCount}
 use Rattle.rules.specs.Print.{contentTokens, attributeLines, formLines, documentLines, printed}
 use Rattle.rules.specs.Store.{Store}
+use Rattle.rules.specs.WellFormed.{isThere}
 use Rattle.rules.proofs.DecodeLaws.{read-good, unflat-flat, good-known, good-found, GoodParts, good-parts}
-use Rattle.rules.specs.Passing.{readStore}
+use Rattle.rules.specs.Passing.{readStore, passes}
 use Rattle.rules.proofs.BooleanLaws.{concat-append, lines-append}
 use Rattle.layout.specs.Bodies.{widthOf}
 use Rattle.codec.specs.Laid.{Laid}
@@ -191,7 +193,7 @@ text-is bs s h =
     ap (λ (f : FlatStore). printed (unflat f)) (bodies-flat bs s h) ∙ ap printed (unflat-flat s (good-known s g) (good-found s g))
 
 -- a store that passes is within the ceilings
-pub passing-within : (bs : Bytes) (s : Store) → readStore bs ≡ some s → Within bs
+passing-within : (bs : Bytes) (s : Store) → readStore bs ≡ some s → Within bs
 unfolding bodiesOf
 passing-within bs s h =
     let (e, g) = read-good bs s h in
@@ -203,3 +205,10 @@ passing-within bs s h =
       attributes = subst (λ (n : ℕ). n ≤ 64) (ap (λ (f : FlatStore). length (f .attributes)) q ∙ length-many readAttribute (attributeSize (widthOf bs)) (attributeCount bs) _) (p .attributeCount);
       rows = subst (λ (n : ℕ). n ≤ 4096) (ap (λ (f : FlatStore). length (f .rows)) q ∙ length-many readRow (rowSize (widthOf bs)) (rowCount bs) _) (p .rowCount);
     }
+
+pub within-counts : (bs : Bytes) → passes bs ≡ true → Within bs
+within-counts bs e = by (readStore bs) refl
+  where
+    by : (o : Option Store) → readStore bs ≡ o → Within bs
+    by none q = absurd (false≢true (sym (ap isThere q) ∙ e))
+    by (some s) q = passing-within bs s q

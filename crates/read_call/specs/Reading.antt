@@ -15,7 +15,8 @@ use Rattle.printing.specs.Texts.{textOf}
 use Rattle.form_front.specs.Front.{frontStands}
 use Rattle.document_row_writer.specs.Putting.{documentsIn, rowsOr}
 use Rattle.document_reading.specs.Judging.{rowsFit}
-use Rattle.text_reading.specs.Stages.{formByIndex, joinedBytes}
+use Rattle.store_check.specs.Check.{byIndex}
+use Rattle.text_reading.specs.Stages.{joinedBytes}
 
 -- a form that passes and is the front of a text, and how long it is there
 pub record Confirmed (bs txt : Bytes) (stands : Bool) (n : ℕ) : Type 0 where
@@ -28,7 +29,7 @@ rowsBehind bs rest = documentsIn (widthOf bs) bs rest
 
 -- the documents stand, and are so many rows
 pub record Stand (bs rest : Bytes) (stands : Bool) (n : ℕ) : Type 0 where
-  pub is : stands ≡ rowsFit (widthOf bs) (formByIndex bs) (rowsBehind bs rest)
+  pub is : stands ≡ rowsFit (widthOf bs) (byIndex bs) (rowsBehind bs rest)
   pub counts : stands ≡ true → n ≡ length (rowsOr (rowsBehind bs rest))
 
 -- the rows are there, n of them

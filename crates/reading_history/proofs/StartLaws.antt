@@ -25,13 +25,13 @@ use Rattle.rules.specs.Run.{Asked, emptyStore, Moment, start}
 use Rattle.rules.proofs.PassingLaws.{good-is}
 use Rattle.history.specs.History.{serialOf, serialsIn, GoodMoment, bookOf, momentOf, Demand3}
 use Rattle.history.proofs.NumberTests.{range}
-use Rattle.history.proofs.Numbering.{Blank, number-serials, lines-serials}
+use Rattle.history.proofs.Numbering.{number-serials, lines-serials}
 use Rattle.history.proofs.Making.{untaken-standing}
 use Rattle.history.proofs.Moments.{start-good, moment-good}
 use Rattle.history.proofs.Accepted.{demand-3-from}
 use Rattle.reading_rules.specs.Canonical.{unnumbered, canonical}
 use Rattle.reading_rules.specs.Reading.{Prints, readText}
-use Rattle.reading_rules.proofs.CanonicalGood.{canonical-good}
+use Rattle.reading_rules.proofs.CanonicalGood.{canonical-good, unnumbered-blank}
 use Rattle.reading_rules.proofs.Theorem.{unique, read-some, read-canonical}
 use Rattle.reading_history.specs.ReadStart.{readBook, ReadStart, HistoryStart, MadeByReading, Demand3OfReading}
 
@@ -99,16 +99,11 @@ range-has k n (suc m) a b = by (decLe (suc n) k) (λ h. range-has k (suc n) m h 
     by (yes h) later = List·Memᴰ·tail (later h)
     by (no h) later = let e : k ≡ n = omega arith in List·Memᴰ·head e
 
-unnumbered-new : (f : Forest Row) → Blank (unnumbered f)
-unfolding eachRow
-unnumbered-new bare = tt
-unnumbered-new (tree r b t) = (refl, unnumbered-new b, unnumbered-new t)
-
 -- the rows of a store so read have the serials from 1 on, as many as there are rows
 canonical-serials : (s : Store) → map serialOf (lines 0 (canonical s .docs)) ≡ range 1 (length (lines 0 (s .docs)))
 unfolding canonical
 canonical-serials s =
-    lines-serials 0 (canonical s .docs) ∙ number-serials 1 (unnumbered (s .docs)) (unnumbered-new (s .docs)) ∙ ap (range 1) (lines-new 0 (s .docs))
+    lines-serials 0 (canonical s .docs) ∙ number-serials 1 (unnumbered (s .docs)) (unnumbered-blank (s .docs)) ∙ ap (range 1) (lines-new 0 (s .docs))
 
 module _ {version : ℕ} {txt : Bytes} {from : Moment} (x : ReadStart version txt from) where
   pub serials-read : serialsIn (from .store) ≡ range 1 (length (lines 0 (x .printer .docs)))

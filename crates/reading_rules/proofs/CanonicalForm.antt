@@ -21,8 +21,9 @@ use Rattle.rules.proofs.Words.{and-split, and-both}
 use Rattle.rules.proofs.BooleanLaws.{none-nil}
 use Rattle.rules.proofs.Carry.{carry-repeated, unchanged, relaxes-same}
 use Rattle.rules.proofs.Grouping.{Alike, alike-self, alike-sym, alike-then, alike-joined, joined-end}
+use Rattle.change_laws.proofs.EditFillings.{every-two}
 use Rattle.reading_rules.specs.Canonical.{canonicalKind, canonicalMembers, canonicalContent, canonicalFill, canonicalAttribute, canonicalDefinition}
-use Rattle.reading_rules.proofs.Shapes.{lookup-canonical, every-two}
+use Rattle.reading_rules.proofs.Shapes.{lookup-canonical}
 
 -- ---- models: the same names, the same language
 names-members : (ms : Members Bytes) → names (canonicalMembers ms) ≡ names ms

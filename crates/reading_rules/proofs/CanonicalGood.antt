@@ -127,7 +127,7 @@ same-ceilings s =
 
 -- ---- serials
 -- none is spent before the first
-none-spent : (n : ℕ) → 1 ≤ n → Spent n []
+pub none-spent : (n : ℕ) → 1 ≤ n → Spent n []
 unfolding times
 none-spent n h = record { least = h; once = λ k. omega arith; zero = refl; above = λ k h. refl }
 

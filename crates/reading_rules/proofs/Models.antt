@@ -39,7 +39,7 @@ pub record MemberEnds (t : Bytes) : Type 0 where
   pub three : eqb head 43 ≡ false
   pub name : inName head ≡ false
 
-member-ends : (x : ℕ) (r : Bytes) → eqb x 63 ≡ false → eqb x 42 ≡ false → eqb x 43 ≡ false → inName x ≡ false → MemberEnds (x ∷ r)
+pub member-ends : (x : ℕ) (r : Bytes) → eqb x 63 ≡ false → eqb x 42 ≡ false → eqb x 43 ≡ false → inName x ≡ false → MemberEnds (x ∷ r)
 member-ends x r a b c d = record { head = x; tail = r; is = refl; one = a; two = b; three = c; name = d }
 
 after-member-ends : (k : GroupKind) (ms : Members Bytes) (r : Bytes) → MemberEnds (afterMember k ms r)
@@ -77,7 +77,7 @@ pub record NameStops (t : Bytes) : Type 0 where
   pub is : t ≡ head ∷ tail
   pub name : inName head ≡ false
 
-mark-stops : (q : Quantifier) (t : Bytes) → MemberEnds t → NameStops (markOf q ++ t)
+pub mark-stops : (q : Quantifier) (t : Bytes) → MemberEnds t → NameStops (markOf q ++ t)
 mark-stops None t e = record { head = e .head; tail = e .tail; is = e .is; name = e .name }
 mark-stops Qmark t e = record { head = 63; tail = t; is = refl; name = refl }
 mark-stops Star t e = record { head = 42; tail = t; is = refl; name = refl }

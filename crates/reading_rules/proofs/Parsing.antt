@@ -21,12 +21,13 @@ use Rattle.rules.proofs.BooleanLaws.{every-in, none-nil}
 use Rattle.rules.proofs.Height.{lookup-member, known-found}
 use Rattle.rules.proofs.WellFormedLaws.{well-formed, definition-good}
 use Rattle.rules.proofs.ConformingLaws.{in-order}
+use Rattle.change_laws.proofs.EditFillings.{every-two}
 use Rattle.reading_rules.specs.Canonical.{canonicalDefinition, unnumbered, canonical}
 use Rattle.reading_rules.specs.Reader.{formOfText, documentsOfText, parsed}
 use Rattle.reading_rules.proofs.Pieces.{putLines, putLines-append, lines-concat}
 use Rattle.reading_rules.proofs.Declarations.{ReadableDefinition, form-of-text, form-long}
 use Rattle.reading_rules.proofs.Documents.{ShownDocuments, linesOfDocuments, documents-of-text, documents-long, documents-apart}
-use Rattle.reading_rules.proofs.Shapes.{isTextual, holds-canonical, every-two, Order, attribute-first, then-content, the-text, nothing-more, element-first, RowStands, shown-documents}
+use Rattle.reading_rules.proofs.Shapes.{isTextual, holds-canonical, Order, attribute-first, then-content, the-text, nothing-more, element-first, RowStands, shown-documents}
 
 -- ---- rows of an element
 elements-order : (rs : List Row) → Sorted element rs → Order false false rs
@@ -45,7 +46,7 @@ front-order pc (r ∷ front) rest q h o =
     attribute-first (q r (List·Memᴰ·head refl)) (h r (List·Memᴰ·head refl))
     (front-order pc front rest (λ u m. q u (List·Memᴰ·tail m)) (λ u m. h u (List·Memᴰ·tail m)) o)
 
-attribute-named : (w : ℕ) (a : Attribute) → isAttributeOf w a ≡ true → isName (a .name) ≡ true
+pub attribute-named : (w : ℕ) (a : Attribute) → isAttributeOf w a ≡ true → isName (a .name) ≡ true
 attribute-named w a e = and-split (storedName (a .name)) (isValue w (a .value) && isFill (a .sort) (a .value)) e .0
 
 -- the rows below an element of this definition: those of its attributes have names since the attributes do
@@ -59,34 +60,18 @@ element-order version w form d below g x =
         let (a, i, e) = Memᴰ·of-map attributeName (d .attributes) (in-order (map nameOf (x .front)) (map attributeName (d .attributes)) (x .attributes .owned) (r .name) (Memᴰ·map nameOf m)) in
         rw (sym e) (attribute-named w a (g .attributes a i))
 
--- ---- a row
-module _ (version w : ℕ) (form : Form) (ok : WellFormed w form) where
+-- ---- names
+module _ (w : ℕ) (form : Form) (ok : WellFormed w form) where
   found-good : (n : Bytes) (d : Definition) → lookup n form ≡ some d → GoodDefinition w form d
   found-good n d e = definition-good w form (well-formed w form .1 ok) n d e
 
-  found-named : (n : Bytes) (d : Definition) → lookup n form ≡ some d → isName n ≡ true
+  pub found-named : (n : Bytes) (d : Definition) → lookup n form ≡ some d → isName n ≡ true
   found-named n d e = rw (← (lookup-member n form d e .1)) (found-good n d e .name)
-
-  -- a row that conforms and is laid out
-  row-stands : (r : Row) (below : List Row) → RowConforms version form r below → laidRow w r ≡ true → RowStands (map canonicalDefinition form) r below
-  row-stands r below c l =
-      record {
-        element = λ q.
-            let (d, e, x) = rw q at c in
-            let o = element-order version w form d below (found-good (r .name) d e) x in
-            (found-named (r .name) d e, none-nil (r .value) (rw q at l), rw (holds-canonical form (r .name) d e) o);
-        attribute = λ q. rw q at c;
-        text = λ q. let v : (isValue w (r .value) && isNone (r .name)) ≡ true = rw q at l in (rw q at c, none-nil (r .name) (and-split (isValue w (r .value)) (isNone (r .name)) v .1));
-      }
-
-  every-stands : (f : Forest Row) → EveryRow (λ r below. RowConforms version form r below) f → EveryRow (λ r below. laidRow w r ≡ true) f
-      → EveryRow (λ r below. RowStands (map canonicalDefinition form) r below) f
-  every-stands f x y = every-two _ _ _ row-stands f x y
 
   known-name : (n : Bytes) → known form n ≡ true → isName n ≡ true
   known-name n k = let (d, e) = known-found form n k in found-named n d e
 
-  readable : (d : Definition) → List·Memᴰ d form → ReadableDefinition d
+  pub readable : (d : Definition) → List·Memᴰ d form → ReadableDefinition d
   readable d m =
       let g = ok .definitions d m in
       record {
@@ -95,6 +80,24 @@ module _ (version w : ℕ) (form : Form) (ok : WellFormed w form) where
         members = all-test isName (names (members d)) .1 (λ n i. known-name n (g .inRange n i));
         attributes = every-in (λ a. isName (a .name) ≡ true) (d .attributes) (λ a i. attribute-named w a (g .attributes a i));
       }
+
+  -- ---- a row
+  module _ (version : ℕ) where
+    -- a row that conforms and is laid out
+    row-stands : (r : Row) (below : List Row) → RowConforms version form r below → laidRow w r ≡ true → RowStands (map canonicalDefinition form) r below
+    row-stands r below c l =
+        record {
+          element = λ q.
+              let (d, e, x) = rw q at c in
+              let o = element-order version w form d below (found-good (r .name) d e) x in
+              (found-named (r .name) d e, none-nil (r .value) (rw q at l), rw (holds-canonical form (r .name) d e) o);
+          attribute = λ q. rw q at c;
+          text = λ q. let v : (isValue w (r .value) && isNone (r .name)) ≡ true = rw q at l in (rw q at c, none-nil (r .name) (and-split (isValue w (r .value)) (isNone (r .name)) v .1));
+        }
+
+    every-stands : (f : Forest Row) → EveryRow (λ r below. RowConforms version form r below) f → EveryRow (λ r below. laidRow w r ≡ true) f
+        → EveryRow (λ r below. RowStands (map canonicalDefinition form) r below) f
+    every-stands f x y = every-two _ _ _ row-stands f x y
 
 -- ---- the whole text
 pub text-of : (s : Store) → printed s ≡ putLines (formLines (s .form)) (linesOfDocuments (s .docs))
@@ -112,9 +115,9 @@ pub parsed-printed : (s : Store) → Good s → parsed (s .version) (printed s) 
 parsed-printed s g =
     let w : ℕ = valueWidth (s .version) in
     let form′ : Form = map canonicalDefinition (s .form) in
-    let rows = every-stands (s .version) w (s .form) (g .form) (s .docs) (g .docs .rows) (g .values) in
+    let rows = every-stands w (s .form) (g .form) (s .version) (s .docs) (g .docs .rows) (g .values) in
     let shown : ShownDocuments form′ (s .docs) = shown-documents form′ (s .docs) rows (g .docs .roots) in
-    let names = every-in (λ d. ReadableDefinition d) (s .form) (readable (s .version) w (s .form) (g .form)) in
+    let names = every-in (λ d. ReadableDefinition d) (s .form) (readable w (s .form) (g .form)) in
     let rest : Bytes = linesOfDocuments (s .docs) in
     let txt : Bytes = putLines (formLines (s .form)) rest in
     let long : length (s .form) + length rest ≤ length txt = form-long (s .form) rest in

@@ -42,12 +42,6 @@ holds-canonical form n d e =
     ap isPcdata (lookup-canonical n form ∙ ap (λ (o : Option Definition). Option·map canonicalDefinition o) e)
     ∙ textual-canonical (d .content)
 
--- two facts on each row give a third
-pub every-two : (P Q S : Row → List Row → Type 0) → ((r : Row) (below : List Row) → P r below → Q r below → S r below)
-    → (f : Forest Row) → EveryRow P f → EveryRow Q f → EveryRow S f
-every-two P Q S h bare x y = tt
-every-two P Q S h (tree r b t) (x₀, x₁, x₂) (y₀, y₁, y₂) = (h r (heads b) x₀ y₀, every-two P Q S h b x₁ y₁, every-two P Q S h t x₂ y₂)
-
 -- ---- rows beside one another: attributes, then a text or elements
 pub data Order : Bool → Bool → List Row → Type 0 where
   attribute-first : {pc : Bool} {r : Row} {rs : List Row} → r .sort ≡ attribute → isName (r .name) ≡ true → Order true pc rs → Order true pc (r ∷ rs)
@@ -62,7 +56,7 @@ pub record RowStands (form : Form) (r : Row) (below : List Row) : Type 0 where
   pub attribute : r .sort ≡ attribute → below ≡ []
   pub text : r .sort ≡ text → (below ≡ []) × (r .name ≡ [])
 
-nothing-below : (f : Forest Row) → heads f ≡ [] → f ≡ bare
+pub nothing-below : (f : Forest Row) → heads f ≡ [] → f ≡ bare
 nothing-below bare e = refl
 nothing-below (tree r b t) e = absurd (cons≢nil e)
 

@@ -347,18 +347,18 @@ unless-of a k b f = by (eqb a k) refl
     by false q = refl
 
 -- the parts of the test
-record RowParts (w : ℕ) (bs : Bytes) : Type 0 where
-  least : 1 ≤ readRow bs .row .sort
-  most : readRow bs .row .sort ≤ 3
-  value : isValue w (used bs rowValueAt (rowLength bs)) ≡ true
-  valueFill : filled bs rowValueAt (rowLength bs) w ≡ true
-  element : readRow bs .row .sort ≡ 1 → rowLength bs ≡ 0
-  text : readRow bs .row .sort ≡ 3 → readRow bs .row .index ≡ 0
-  unused₀ : getD bs rowUnusedAt 0 ≡ 0
-  unused₁ : getD bs (rowValueAt + w) 0 ≡ 0
-  unused₂ : getD bs (rowValueAt + 1 + w) 0 ≡ 0
+pub record RowParts (w : ℕ) (bs : Bytes) : Type 0 where
+  pub least : 1 ≤ readRow bs .row .sort
+  pub most : readRow bs .row .sort ≤ 3
+  pub value : isValue w (used bs rowValueAt (rowLength bs)) ≡ true
+  pub valueFill : filled bs rowValueAt (rowLength bs) w ≡ true
+  pub element : readRow bs .row .sort ≡ 1 → rowLength bs ≡ 0
+  pub text : readRow bs .row .sort ≡ 3 → readRow bs .row .index ≡ 0
+  pub unused₀ : getD bs rowUnusedAt 0 ≡ 0
+  pub unused₁ : getD bs (rowValueAt + w) 0 ≡ 0
+  pub unused₂ : getD bs (rowValueAt + 1 + w) 0 ≡ 0
 
-row-parts : (w : ℕ) (bs : Bytes) → rowFits w bs ≡ true → RowParts w bs
+pub row-parts : (w : ℕ) (bs : Bytes) → rowFits w bs ≡ true → RowParts w bs
 unfolding rowFits valueFits unusedFit
 row-parts w bs h =
     let (s, h₁) = and-split (leb 1 (readRow bs .row .sort) && leb (readRow bs .row .sort) 3) _ h in

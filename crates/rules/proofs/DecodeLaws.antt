@@ -88,7 +88,7 @@ unfoldable pub FoundBelow : Form → Bytes → Forest Row → Type 0
 FoundBelow form owner bare = Unit {0}
 FoundBelow form owner (tree r b t) = Found form owner r × FoundBelow form (r .name) b × FoundBelow form owner t
 
-row-code : (s : RowSort) → rowSortOf (rowCode s) ≡ s
+pub row-code : (s : RowSort) → rowSortOf (rowCode s) ≡ s
 row-code element = refl
 row-code attribute = refl
 row-code text = refl
@@ -148,7 +148,7 @@ read-form form (d ∷ fs) o cs h g =
     later : (k : ℕ) → suc o ≤ k → ofOwner k cs ≡ ofOwner k (allAttributes (suc o) fs)
     later k l = h k (omega arith) ∙ own-other k o (d .attributes) (allAttributes (suc o) fs) (λ e. omega arith)
 
-flat-names : (form fs : Form) → map flatName (map (flatDefinition form) fs) ≡ map definitionName fs
+pub flat-names : (form fs : Form) → map flatName (map (flatDefinition form) fs) ≡ map definitionName fs
 flat-names form [] = refl
 flat-names form (d ∷ fs) = ap (λ (z : List Bytes). d .name ∷ z) (flat-names form fs)
 

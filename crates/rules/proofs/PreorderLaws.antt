@@ -26,6 +26,16 @@ module _ {A : Type 0} where
   pub build-more : (x : Deep A) (xs : List (Deep A)) (k : ℕ) → x .depth < k → build (x ∷ xs) k ≡ bare
   build-more x xs k h = rw (le-ltb k (x .depth) (omega arith), build) (rw (ne-eqb k (x .depth) (λ e. omega arith)))
 
+  -- no row of depth d or more comes first
+  abbrev pub Ends : ℕ → List (Deep A) → Type 0
+  Ends d [] = Unit {0}
+  Ends d (x ∷ xs) = x .depth < d
+
+  pub ends-after : (d : ℕ) (t : Forest A) (rest : List (Deep A)) → Ends d rest → Ends (suc d) (preorder d t ++ rest)
+  ends-after d bare [] e = tt
+  ends-after d bare (x ∷ rest) e = omega arith
+  ends-after d (tree r b t) rest e = omega arith
+
   -- no row comes next, or one of depth d at most
   Shallow : ℕ → List (Deep A) → Type 0
   Shallow d rest = (k : ℕ) → d < k → build rest k ≡ bare

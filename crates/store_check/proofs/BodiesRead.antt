@@ -13,7 +13,7 @@ use borrow.Author.Tests.{ltb-true, ltb-false}
 use Rattle.rules.specs.Bytes.{Bytes}
 use Rattle.rules.specs.Preorder.{Deep, build}
 use Rattle.rules.specs.Layout.{definitionSize, particleSize, attributeSize, rowSize, FlatDefinition, FlatParticle}
-use Rattle.rules.specs.Decode.{numberAt, readRow, readMany, readDefinition, readAttribute, sortOf, definitionCount, attributeCount, rowCount}
+use Rattle.rules.specs.Decode.{numberAt, readRow, readMany, readDefinition, readAttribute, sortOf, rowCount}
 use Rattle.rules.specs.Conforming.{mustBePresent, allows}
 use Rattle.rules.specs.Passing.{passes}
 use Rattle.model.specs.Members.{indexMembers, particlesOf, membersFrom, allMembers}
@@ -21,11 +21,11 @@ use Rattle.records.specs.Records.{rowFits, eachFits}
 use Rattle.form_check.specs.Bodies.{definitions, attributes, formOfBodies}
 use Rattle.model_check.specs.Particles.{particlesRead}
 use Rattle.form_check.proofs.Reading.{definitions-length, attributes-length}
-use Rattle.layout.specs.Bodies.{recordAt, widthOf, definitionsIn, particlesIn, attributesIn, treeRowsIn}
+use Rattle.layout.specs.Bodies.{recordAt, widthOf, attributesIn, treeRowsIn}
 use Rattle.form_index.specs.Reading.{definitionIn, attributeIn, modelPart}
 use Rattle.form_index.specs.Reading as bytes
 use Rattle.store_check.specs.Reading.{partAt, noFlatDefinition, noAttribute, entryOf, formAt, flatIndexForm}
-use Rattle.store_check.specs.Check.{FormPasses, FormIn, RowsPass, SerialsIn}
+use Rattle.store_check.specs.Check.{FormPasses, FormIn, byIndex, RowsPass, SerialsIn}
 use Rattle.store_check.proofs.FormLaws.{Laid}
 use Rattle.store_check.proofs.IndexReads.{definition-in, attribute-in, model-in, index-agrees}
 use Rattle.store_check.proofs.StringChecks.{Headed, laid-in, same-definitions, same-particles, same-attributes, same-rows, passes-in}
@@ -87,15 +87,8 @@ module _ {w n : ℕ} {defs : Bytes} {p : ℕ} {parts : Bytes} {a : ℕ} {attrs :
 
 -- ---- of a byte string that passes
 module _ {bs : Bytes} (h : Headed bs) where
-  told : passes bs ≡ true
-      → FormIn bs
-      × RowsPass (widthOf bs)
-      (bytes.indexForm (numberAt versionAt 4 bs) (widthOf bs) (definitionCount bs) (definitionsIn bs) (particlesIn bs) (attributesIn bs) (attributeCount bs))
-      (rowCount bs) (treeRowsIn bs)
-      × SerialsIn bs
-  told = passes-in h
-      (bytes.indexForm (numberAt versionAt 4 bs) (widthOf bs) (definitionCount bs) (definitionsIn bs) (particlesIn bs) (attributesIn bs) (attributeCount bs))
-      (λ x. index-agrees (laid-in h) (x .passes) (numberAt versionAt 4 bs)) .0
+  told : passes bs ≡ true → FormIn bs × RowsPass (widthOf bs) (byIndex bs) (rowCount bs) (treeRowsIn bs) × SerialsIn bs
+  told = passes-in h (byIndex bs) (λ x. index-agrees (laid-in h) (x .passes) (numberAt versionAt 4 bs)) .0
 
   pub form-in : passes bs ≡ true → FormIn bs
   form-in q = told q .0
@@ -104,9 +97,7 @@ module _ {bs : Bytes} (h : Headed bs) where
   pub rows-fit : passes bs ≡ true → eachFits (rowFits (widthOf bs)) (rowSize (widthOf bs)) (rowCount bs) (treeRowsIn bs) ≡ true
   rows-fit q = told q .1 .fields
 
-  pub read-form : passes bs ≡ true
-      → bytes.indexForm (numberAt versionAt 4 bs) (widthOf bs) (definitionCount bs) (definitionsIn bs) (particlesIn bs) (attributesIn bs) (attributeCount bs)
-      ≡ flatIndexForm (flatOf bs)
+  pub read-form : passes bs ≡ true → byIndex bs ≡ flatIndexForm (flatOf bs)
   read-form q =
       index-is (laid-in h) (form-in q .passes) (numberAt versionAt 4 bs)
       ∙ (λ i. formAt (numberAt versionAt 4 bs) (record {

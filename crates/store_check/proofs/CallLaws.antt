@@ -29,7 +29,7 @@ use Rattle.circle_check.specs.Deep.{Ranked}
 use Rattle.serial_check.specs.Serials.{serialsOf, fitting}
 use Rattle.form_index.specs.Indices.{Documents, Everywhere}
 use Rattle.form_index.specs.Reading.{indexForm}
-use Rattle.store_check.specs.Check.{FormPasses, FormIn, RowsPass, RowsIn, SerialsIn}
+use Rattle.store_check.specs.Check.{FormPasses, FormIn, byIndex, RowsPass, RowsIn, SerialsIn}
 use Rattle.store_check.proofs.FormLaws.{Laid, circle-fit}
 use Rattle.store_check.proofs.StringChecks.{Headed, header, laid-in, rows-whole, passes-header, passes-in}
 use Rattle.store_check.proofs.IndexReads.{index-agrees, index-once}
@@ -170,14 +170,8 @@ headless {bs} x {b} h q = by (passes bs) refl
     by false e = refl
 
 module _ {bs : Bytes} (h : Headed bs) where
-  all-in : (passes bs ≡ true)
-      ↔ (FormIn bs
-      × RowsPass (widthOf bs)
-      (indexForm (numberAt versionAt 4 bs) (widthOf bs) (definitionCount bs) (definitionsIn bs) (particlesIn bs) (attributesIn bs) (attributeCount bs)) (rowCount bs)
-      (treeRowsIn bs)
-      × SerialsIn bs)
-  all-in = passes-in h (indexForm (numberAt versionAt 4 bs) (widthOf bs) (definitionCount bs) (definitionsIn bs) (particlesIn bs) (attributesIn bs) (attributeCount bs))
-      (λ x. index-agrees (laid-in h) (x .passes) (numberAt versionAt 4 bs))
+  all-in : (passes bs ≡ true) ↔ (FormIn bs × RowsPass (widthOf bs) (byIndex bs) (rowCount bs) (treeRowsIn bs) × SerialsIn bs)
+  all-in = passes-in h (byIndex bs) (λ x. index-agrees (laid-in h) (x .passes) (numberAt versionAt 4 bs))
 
   not-passed : (passes bs ≡ true → ⊥) → false ≡ passes bs
   not-passed f = by (passes bs) refl
@@ -197,9 +191,7 @@ module _ {bs : Bytes} (h : Headed bs) where
       same-truth r (passes bs) (λ e. all-in .1 (x .0 (not-false a s), y .0 (not-false b t) .passes, z .0 e)) (λ e. z .1 (all-in .0 e .2))
 
   -- ---- without rows the form decides
-  none-fit : rowCount bs ≡ 0 → RowsPass (widthOf bs)
-      (indexForm (numberAt versionAt 4 bs) (widthOf bs) (definitionCount bs) (definitionsIn bs) (particlesIn bs) (attributesIn bs) (attributeCount bs)) (rowCount bs)
-      (treeRowsIn bs)
+  none-fit : rowCount bs ≡ 0 → RowsPass (widthOf bs) (byIndex bs) (rowCount bs) (treeRowsIn bs)
   unfolding eachFits
   none-fit e =
       rw e

@@ -19,11 +19,10 @@ use Rattle.rules.proofs.LayoutLaws.{Small}
 use Rattle.rules.proofs.SmallBytes.{encode-small}
 use Rattle.rules.proofs.PassingLaws.{good-is}
 use Rattle.lookup.specs.Bodies.{bodiesOf, recordsFrom}
-use Rattle.layout.specs.Bodies.{widthOf, definitionsIn, particlesIn, attributesIn, treeRowsIn, WidthIn, Number}
+use Rattle.layout.specs.Bodies.{widthOf, treeRowsIn, WidthIn, Number}
 use Rattle.lookup.proofs.Laws.{from-all}
-use Rattle.form_index.specs.Indices.{IndexForm}
-use Rattle.form_index.specs.Reading.{indexForm}
 use Rattle.store_check.specs.Reading.{Agrees}
+use Rattle.store_check.specs.Check.{byIndex}
 use Rattle.store_check.proofs.StringChecks.{Headed, header, laid-in, passes-header, passes-in, same-form, same-rows}
 use Rattle.store_check.proofs.IndexReads.{index-agrees}
 use Rattle.store_laws.specs.Stores.{storeIn}
@@ -35,10 +34,6 @@ formIn bs = storeIn bs .form
 
 abbrev pub docsIn : Bytes → Forest Row
 docsIn bs = storeIn bs .docs
-
--- the form by index that the bytes say
-abbrev pub byIndex : Bytes → IndexForm
-byIndex bs = indexForm (numberAt versionAt 4 bs) (widthOf bs) (definitionCount bs) (definitionsIn bs) (particlesIn bs) (attributesIn bs) (attributeCount bs)
 
 -- the width that the string says is the one of its store's version
 pub width-of-store : (bs : Bytes) → widthOf bs ≡ valueWidth (storeIn bs .version)

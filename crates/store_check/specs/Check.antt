@@ -27,6 +27,10 @@ pub record FormPasses (w n : ℕ) (defs : Bytes) (p : ℕ) (parts : Bytes) (a : 
 pub record FormIn (bs : Bytes) : Type 0 where
   pub passes : FormPasses (widthOf bs) (definitionCount bs) (definitionsIn bs) (particleCount bs) (particlesIn bs) (attributeCount bs) (attributesIn bs)
 
+-- the form by index that it says
+abbrev pub byIndex : Bytes → IndexForm
+byIndex bs = indexForm (numberAt versionAt 4 bs) (widthOf bs) (definitionCount bs) (definitionsIn bs) (particlesIn bs) (attributesIn bs) (attributeCount bs)
+
 -- ---- the rows
 -- each by itself, and documents that conform to a form by index
 pub record RowsPass (w : ℕ) (F : IndexForm) (count : ℕ) (rows : Bytes) : Type 0 where
@@ -35,9 +39,7 @@ pub record RowsPass (w : ℕ) (F : IndexForm) (count : ℕ) (rows : Bytes) : Typ
 
 -- of a byte string
 pub record RowsIn (bs : Bytes) : Type 0 where
-  pub passes : RowsPass (widthOf bs)
-      (indexForm (numberAt versionAt 4 bs) (widthOf bs) (definitionCount bs) (definitionsIn bs) (particlesIn bs) (attributesIn bs) (attributeCount bs)) (rowCount bs)
-      (treeRowsIn bs)
+  pub passes : RowsPass (widthOf bs) (byIndex bs) (rowCount bs) (treeRowsIn bs)
 
 pub record SerialsIn (bs : Bytes) : Type 0 where
   pub fits : fitting (numberAt nextAt 4 bs) (serialsOf (widthOf bs) (rowCount bs) (treeRowsIn bs)) ≡ true

@@ -19,7 +19,7 @@ use Rattle.layout.specs.Bodies.{widthOf, mostForm}
 use Rattle.layout.specs.Header.{contents, headed}
 use Rattle.layout.proofs.HeaderLaws.{attributes-short}
 use Rattle.lookup.specs.Bodies.{bodiesOf}
-use Rattle.store_laws.specs.Forms.{formBytes, formRead, Forms}
+use Rattle.store_laws.specs.Forms.{formBytes, formRead, reformed, Forms}
 use Rattle.store_laws.proofs.StoreLaws.{Holds, width-of-bodies}
 use Rattle.codec.proofs.Records.{length-many}
 
@@ -56,19 +56,21 @@ module _ (w : ℕ) (form : Bytes) (d p a : ℕ) where
   unfolding formRead
   count-attributes = length-many readAttribute (attributeSize w) a (drop (particleSize * p) (drop (definitionSize * d) form))
 
--- what the ceilings allow of a form
+-- what the ceilings allow of a store
 pub record Few (g : FlatStore) : Type 0 where
   pub definitions : leb (length (g .definitions)) 64 ≡ true
   pub particles : leb (length (g .particles)) 256 ≡ true
   pub depths : all (λ (p : Deep FlatParticle). leb (p .depth) 4) (g .particles) ≡ true
   pub attributes : leb (length (g .attributes)) 64 ≡ true
+  pub rows : leb (length (g .rows)) 4096 ≡ true
 
 pub few-of : (g : FlatStore) → withinCeilings g ≡ true → Few g
 few-of g h =
     let (a, h₁) = and-split (leb (length (g .definitions)) 64) _ h in
     let (b, h₂) = and-split (leb (length (g .particles)) 256) _ h₁ in
     let (c, h₃) = and-split (all (λ (p : Deep FlatParticle). leb (p .depth) 4) (g .particles)) _ h₂ in
-    record { definitions = a; particles = b; depths = c; attributes = and-split (leb (length (g .attributes)) 64) _ h₃ .0 }
+    let (d, e) = and-split (leb (length (g .attributes)) 64) _ h₃ in
+    record { definitions = a; particles = b; depths = c; attributes = d; rows = e }
 
 module _ {g : FlatStore} (x : Few g) where
   pub few-definitions : length (g .definitions) ≤ 64
@@ -80,10 +82,10 @@ module _ {g : FlatStore} (x : Few g) where
   pub few-attributes : length (g .attributes) ≤ 64
   few-attributes = leb-true (length (g .attributes)) 64 (x .attributes)
 
--- ---- a store with the form of g and other rows
-abbrev pub reformed : FlatStore → FlatStore → ℕ → List (Deep FlatRow) → FlatStore
-reformed f g next rows = record { version = f .version; next = next; definitions = g .definitions; particles = g .particles; attributes = g .attributes; rows = rows }
+  pub few-rows : length (g .rows) ≤ 4096
+  few-rows = leb-true (length (g .rows)) 4096 (x .rows)
 
+-- ---- a store with the form of g and other rows
 pub whole : {bs : Bytes} → Holds bs → flatBytes (widthOf bs) (bodiesOf bs) ≡ bs
 whole {bs} h =
     ap (λ (w : ℕ). flatBytes w (bodiesOf bs)) (sym (width-of-bodies bs)) ∙ ap (λ (f : FlatStore). flatBytes (valueWidth (f .version)) f) (h .bodies) ∙ h .written

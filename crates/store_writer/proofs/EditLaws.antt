@@ -33,7 +33,7 @@ use Rattle.store_writer.proofs.LimitLaws.{answers-refused, answers-wrot
 use Rattle.store_limits.proofs.WithinLaws.{Within, as-limits, limit-within}
 use Rattle.plan_writer.proofs.EditedLaws.{width-after, size, past, next-is}
 use Rattle.store_laws.proofs.FormBytesLaws.{count-definitions, count-particles, count-attributes, Few, few-of, few-definitions, few-particles, few-attributes, form-short}
-use Rattle.store_laws.proofs.FormBytesLaws.{reformed, whole, ceilings-rows, reformed-length, reformed-bytes}
+use Rattle.store_laws.proofs.FormBytesLaws.{whole, ceilings-rows, reformed-length, reformed-bytes}
 use Rattle.layout.specs.Fields.{nextAt}
 use Rattle.store_laws.proofs.Encoded.{own-serial}
 

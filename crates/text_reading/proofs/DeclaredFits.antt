@@ -1,20 +1,20 @@
 -- What a text declares fits the fields of a store, whatever the text is, where it keeps within the ceilings: names and
 -- values are cut to their fields, and no definition has more particles than all have.
-use Prim.Native.Nat.{ℕ, zero, suc, _+_, _-_, _≤_, _<_}
+use Prim.Native.Nat.{ℕ, suc, _+_, _-_, _≤_, _<_}
 use native.Mathlib.Omega.{arith}
-use mathlib.Core.Path.{_≡_, refl, sym, ap, _∙_}
-use mathlib.Core.Bool.{Bool, true, false, _&&_}
+use mathlib.Core.Path.{_≡_, refl}
+use mathlib.Core.Bool.{Bool, true, false}
 use mathlib.Core.List.{List, [], _∷_, _++_, map}
-use lib.Dec.{eqb, leb, leb→le}
+use lib.Dec.{eqb}
 use lib.ListN.{length, take, drop, length-append, length-take}
-use Rattle.rules.specs.Bytes.{Bytes, ascii, all, to-T}
+use Rattle.rules.specs.Bytes.{Bytes}
 use Rattle.rules.specs.Preorder.{Deep}
-use Rattle.rules.specs.Layout.{nameWidth, FlatDefinition, FlatParticle, FlatAttribute, FlatStore}
+use Rattle.rules.specs.Layout.{nameWidth, FlatParticle, FlatStore}
 use Rattle.rules.specs.Decode.{flatName}
 use Rattle.rules.specs.WellFormed.{inName, withinCeilings}
-use Rattle.rules.proofs.Words.{and-split}
-use Rattle.rules.proofs.BooleanLaws.{Every, every-map}
+use Rattle.rules.proofs.BooleanLaws.{Every}
 use Rattle.rules.proofs.LayoutLaws.{GoodFlatDefinition, GoodFlatAttribute, GoodFlat}
+use Rattle.store_laws.proofs.FormBytesLaws.{Few, few-of, few-definitions, few-particles, few-attributes}
 use Rattle.text_scan.specs.Scan.{frontWhile}
 use Rattle.model_scan.proofs.ModelLaws.{model-alike}
 use Rattle.declaration_scan.specs.Declared.{modelFrom, isDefinition, afterDeclared, declaredKind, declaredValue, afterType, modelOfContent}
@@ -64,19 +64,15 @@ pub declared-fits : (version w : ℕ) (txt : Bytes) → version < 4294967296 →
 unfolding declaredForm
 declared-fits version w txt small e =
     let f : FlatStore = declaredForm version w txt in
-    let (d, e₁) = and-split (leb (length (f .definitions)) 64) _ e in
-    let (p, e₂) = and-split (leb (length (f .particles)) 256) _ e₁ in
-    let (deep, e₃) = and-split (all (λ (p : Deep FlatParticle). leb (p .depth) 4) (f .particles)) _ e₂ in
-    let (a, r) = and-split (leb (length (f .attributes)) 64) _ e₃ in
-    let few : length (f .particles) ≤ 256 = leb→le _ 256 (to-T p) in
+    let few : Few f = few-of f e in
     record {
       version = small;
       next = omega arith;
-      definitionCount = omega (arith, leb→le (length (f .definitions)) 64 (to-T d));
-      particleCount = omega arith;
-      attributeCount = omega (arith, leb→le (length (f .attributes)) 64 (to-T a));
+      definitionCount = omega (arith, few-definitions few);
+      particleCount = omega (arith, few-particles few);
+      attributeCount = omega (arith, few-attributes few);
       rowCount = omega arith;
-      definitions = definitions-fit (map flatName (definitionsOfLines (declarations txt))) (declarations txt) few;
+      definitions = definitions-fit (map flatName (definitionsOfLines (declarations txt))) (declarations txt) (few-particles few);
       attributes = attributes-fit w 0 (declarations txt);
       rows = tt;
     }

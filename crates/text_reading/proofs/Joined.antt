@@ -1,23 +1,17 @@
 -- Rows joined to the form of a store that passes: by `checks-read` of `store_check` the form's tests stay, and what is
 -- left are the tests of the rows.
-use Prim.Native.Nat.{ℕ, _+_, _≤_, _<_}
-use native.Mathlib.Omega.{arith}
+use Prim.Native.Nat.{_+_, _≤_}
 use mathlib.Core.Path.{_≡_, refl, sym, ap, _∙_, subst}
-use mathlib.Core.Bool.{Bool, true, _&&_}
+use mathlib.Core.Bool.{true}
 use mathlib.Core.List.{List}
-use lib.Dec.{leb}
 use lib.ListN.{length}
 use borrow.Author.Tests.{le-leb}
-use Rattle.rules.specs.Bytes.{Bytes, all}
-use Rattle.rules.specs.Store.{Store}
+use Rattle.rules.specs.Bytes.{Bytes}
 use Rattle.rules.specs.Preorder.{Deep}
-use Rattle.rules.specs.Layout.{valueWidth, FlatParticle, FlatRow, FlatStore, flat}
+use Rattle.rules.specs.Layout.{valueWidth, FlatRow, FlatStore, flat}
 use Rattle.rules.specs.Decode.{unflat}
-use Rattle.rules.specs.WellFormed.{withinCeilings}
-use Rattle.rules.specs.Passing.{Good, good, passes}
-use Rattle.rules.proofs.Words.{and-both, and-split}
+use Rattle.rules.specs.Passing.{good, passes}
 use Rattle.rules.proofs.BooleanLaws.{Every}
-use Rattle.rules.proofs.PassingLaws.{good-is}
 use Rattle.form_check.specs.FormTests.{bodiesFit}
 use Rattle.form_check.proofs.Laws.{bodies-only}
 use Rattle.form_index.specs.Indices.{Documents}
@@ -25,16 +19,18 @@ use Rattle.lookup.specs.Bodies.{bodiesOf}
 use Rattle.layout.specs.Bodies.{widthOf}
 use Rattle.store_laws.specs.Stores.{storeIn}
 use Rattle.store_laws.proofs.StoreLaws.{Holds}
-use Rattle.store_check.specs.Reading.{FieldsFit, Agrees, RowFits, serialsOfRows, serialsFit, Checks, FlatPasses}
+use Rattle.store_laws.proofs.FormBytesLaws.{ceilings-rows}
+use Rattle.store_check.specs.Check.{byIndex}
+use Rattle.store_check.specs.Reading.{FieldsFit, Agrees, RowFits, serialsOfRows, serialsFit, FlatPasses}
 use Rattle.store_check.proofs.FormGood.{good-bodies, good-fields}
 use Rattle.store_check.proofs.StoreReads.{checks-read, flat-passes}
-use Rattle.store_check.proofs.StoreFacts.{Whole, whole}
-use Rattle.text_reading.specs.Stages.{withDocuments, formByIndex}
+use Rattle.store_check.proofs.StoreFacts.{whole}
+use Rattle.text_reading.specs.Stages.{withDocuments}
 
 -- rows that a form by index takes, each by itself and all together, with serials below the next
 pub record RowsJoin (bs : Bytes) (xs : List (Deep FlatRow)) : Type 0 where
   pub fields : Every (λ x. RowFits (widthOf bs) (x .row)) xs
-  pub documents : Documents (formByIndex bs) xs
+  pub documents : Documents (byIndex bs) xs
   pub serials : serialsFit (1 + length xs) (serialsOfRows xs) ≡ true
   pub few : length xs ≤ 4096
 
@@ -62,27 +58,18 @@ module _ (bs : Bytes) (q : passes bs ≡ true) where
     bodies-stay : bodiesFit joined ≡ true
     bodies-stay = bodies-only joined (bodiesOf bs) refl refl refl ∙ bodies
 
-    agrees-stay : Agrees (joined .version) (formByIndex bs) (unflat joined .form)
+    agrees-stay : Agrees (joined .version) (byIndex bs) (unflat joined .form)
     unfolding storeIn
     agrees-stay = whole bs q .agrees
-
-    ceilings-stay : length xs ≤ 4096 → withinCeilings joined ≡ true
-    ceilings-stay few =
-        let f : FlatStore = bodiesOf bs in
-        let (d, c₁) = and-split (leb (length (f .definitions)) 64) _ (tests .checks .ceilings) in
-        let (p, c₂) = and-split (leb (length (f .particles)) 256) _ c₁ in
-        let (deep, c₃) = and-split (all (λ (p : Deep FlatParticle). leb (p .depth) 4) (f .particles)) _ c₂ in
-        let (a, r) = and-split (leb (length (f .attributes)) 64) (leb (length (f .rows)) 4096) c₃ in
-        and-both d (and-both p (and-both deep (and-both a (le-leb (length xs) 4096 few))))
 
     -- the joined store is read as one that passes and is written as it
     pub joined-good : RowsJoin bs xs → (good (unflat joined) ≡ true) × (flat (unflat joined) ≡ joined)
     unfolding storeIn widthOf bodiesOf
     joined-good j =
-        checks-read joined fields-stay bodies-stay (formByIndex bs) agrees-stay .1
+        checks-read joined fields-stay bodies-stay (byIndex bs) agrees-stay .1
         (record {
           version = tests .checks .version;
-          ceilings = ceilings-stay (j .few);
+          ceilings = ceilings-rows (bodiesOf bs) (bodiesOf bs) (1 + length xs) xs (tests .checks .ceilings) ∙ le-leb (length xs) 4096 (j .few);
           circle = tests .checks .circle;
           rows = j .fields;
           documents = j .documents;
@@ -90,5 +77,5 @@ module _ (bs : Bytes) (q : passes bs ≡ true) where
         })
 
     -- and the rows of one that passes join
-    pub good-joined : good (unflat joined) ≡ true → flat (unflat joined) ≡ joined → Documents (formByIndex bs) xs
-    good-joined g e = checks-read joined fields-stay bodies-stay (formByIndex bs) agrees-stay .0 (g, e) .documents
+    pub good-joined : good (unflat joined) ≡ true → flat (unflat joined) ≡ joined → Documents (byIndex bs) xs
+    good-joined g e = checks-read joined fields-stay bodies-stay (byIndex bs) agrees-stay .0 (g, e) .documents

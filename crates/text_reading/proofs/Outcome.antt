@@ -1,25 +1,25 @@
 -- THE ANSWER THAT THE STAGES DECIDE IS THE PROMISED ONE. A text that some store prints comes through all stages as that
 -- store's canonical one; a text that comes through all stages is printed by the store that its rows and form make.
-use Prim.Native.Nat.{ℕ, suc, _+_, _≤_, _<_}
+use Prim.Native.Nat.{ℕ, _+_, _≤_, _<_}
 use native.Mathlib.Omega.{arith}
 use mathlib.Core.Path.{_≡_, refl, sym, ap, ap₂, _∙_, subst}
 use mathlib.Core.Logic.{inl, inr}
-use mathlib.Core.Bool.{Bool, true, false, _&&_, false≢true}
+use mathlib.Core.Bool.{Bool, true, false, false≢true}
 use mathlib.Core.Option.{Option, none, some, Option·none-ne-some, Option·some-injective}
-use mathlib.Core.List.{List, [], _∷_, _++_, map}
-use lib.Dec.{leb, leb→le}
+use mathlib.Core.List.{List, [], _++_, map}
+use lib.Dec.{leb}
 use lib.ListN.{length, drop}
 use lib.Seq.{drop-at}
 use borrow.Author.Tests.{le-leb}
-use Rattle.rules.specs.Bytes.{Bytes, concat, all, to-T}
-use Rattle.rules.specs.Store.{Form, Row, Forest, bare, Store}
+use Rattle.rules.specs.Bytes.{Bytes}
+use Rattle.rules.specs.Store.{Form, Row, Forest, Store}
 use Rattle.rules.specs.Preorder.{Deep, preorder}
 use Rattle.rules.specs.Layout.{valueWidth, FlatRow, FlatStore, flatDefinition, allAttributes, indexed, flat, flatBytes, encode}
 use Rattle.rules.specs.Decode.{readFlat, unflat}
 use Rattle.rules.specs.WellFormed.{withinCeilings}
 use Rattle.rules.specs.Passing.{Good, good, passes}
 use Rattle.rules.specs.Outcome.{Outcome, refused, unlessRefused}
-use Rattle.rules.specs.Print.{documentLines, printed, tooLong}
+use Rattle.rules.specs.Print.{printed, tooLong}
 use Rattle.rules.specs.Change.{eachRow, newRows, number}
 use Rattle.rules.proofs.Words.{and-both, and-split}
 use Rattle.rules.proofs.PassingLaws.{good-is}
@@ -29,12 +29,13 @@ use Rattle.layout.specs.Bodies.{widthOf}
 use Rattle.layout.proofs.LayoutLaws.{version-read}
 use Rattle.lookup.specs.Bodies.{bodiesOf}
 use Rattle.store_laws.specs.Stores.{storeIn}
+use Rattle.store_laws.proofs.FormBytesLaws.{Few, few-of, few-definitions, few-attributes, few-rows, ceilings-rows}
 use Rattle.printing.specs.Texts.{textOf}
 use Rattle.form_front.specs.Front.{formTextRoom, frontStands}
 use Rattle.text_scan.specs.Scan.{startsWith}
 use Rattle.text_scan.proofs.ScanLaws.{starts-split, starts-append}
 use Rattle.reading_rules.specs.Canonical.{canonicalDefinition, unnumbered, canonical}
-use Rattle.reading_rules.specs.Reading.{storeWritten, Prints, ReadsText}
+use Rattle.reading_rules.specs.Reading.{Prints, ReadsText}
 use Rattle.reading_rules.proofs.CanonicalGood.{canonical-good, rows-flat, unnumbered-blank, range-long}
 use Rattle.declaration_scan.specs.Declared.{declaredForm}
 use Rattle.declaration_laws.proofs.TextParts.{formOnly, formStore, text-parts, form-store-text}
@@ -56,20 +57,11 @@ use Rattle.text_reading.specs.Stages.{withDocuments, declaredBytes, decl
 
 -- ---- a store's form alone passes
 module _ (s : Store) (g : Good s) where
-  ceilings-alone : withinCeilings (flat (formOnly s)) ≡ true
-  ceilings-alone =
-      let f : FlatStore = flat s in
-      let (d, c₁) = and-split (leb (length (f .definitions)) 64) _ (g .ceilings) in
-      let (p, c₂) = and-split (leb (length (f .particles)) 256) _ c₁ in
-      let (deep, c₃) = and-split (all (λ p. leb (p .depth) 4) (f .particles)) _ c₂ in
-      let (a, r) = and-split (leb (length (f .attributes)) 64) _ c₃ in
-      and-both d (and-both p (and-both deep (and-both a refl)))
-
   alone-good : Good (formOnly s)
   alone-good =
       record {
         version = g .version;
-        ceilings = ceilings-alone;
+        ceilings = ceilings-rows (flat s) (flat s) (s .next) [] (g .ceilings);
         form = g .form;
         docs = record { roots = λ r m. absurd (none-in m); rows = tt };
         values = tt;
@@ -96,28 +88,11 @@ module _ (s : Store) (g : good s ≡ true) where
   unfolding storeIn
   store-read = ap unflat bodies-read ∙ unflat-flat s (good-known s g) (good-found s g)
 
--- ---- the ceilings, taken apart
-definitions-few : (f : FlatStore) → withinCeilings f ≡ true → length (f .definitions) ≤ 64
-definitions-few f e = leb→le (length (f .definitions)) 64 (to-T (and-split (leb (length (f .definitions)) 64) _ e .0))
-
-attributes-few : (f : FlatStore) → withinCeilings f ≡ true → length (f .attributes) ≤ 64
-attributes-few f e =
-    let e₁ = and-split (leb (length (f .definitions)) 64) _ e .1 in
-    let e₂ = and-split (leb (length (f .particles)) 256) _ e₁ .1 in
-    let e₃ = and-split (all (λ p. leb (p .depth) 4) (f .particles)) _ e₂ .1 in
-    leb→le (length (f .attributes)) 64 (to-T (and-split (leb (length (f .attributes)) 64) _ e₃ .0))
-
-rows-few : (f : FlatStore) → withinCeilings f ≡ true → length (f .rows) ≤ 4096
-rows-few f e =
-    let e₁ = and-split (leb (length (f .definitions)) 64) _ e .1 in
-    let e₂ = and-split (leb (length (f .particles)) 256) _ e₁ .1 in
-    let e₃ = and-split (all (λ p. leb (p .depth) 4) (f .particles)) _ e₂ .1 in
-    leb→le (length (f .rows)) 4096 (to-T (and-split (leb (length (f .attributes)) 64) _ e₃ .1))
-
 -- rows that a text shows by a form within the ceilings
 shown-counted : (bs : Bytes) → withinCeilings (bodiesOf bs) ≡ true → (w : ℕ) (txt : Bytes) (xs : List (Deep FlatRow)) → documentRows (declaredIn bs) w 1 [] false 0 txt ≡ some xs → Counted w xs
 shown-counted bs e w txt xs shown =
-    let made = rows-made (declaredIn bs) w (definitions-few (bodiesOf bs) e) (attributes-few (bodiesOf bs) e) txt 0 1 [] false xs (omega arith) shown in
+    let few : Few (bodiesOf bs) = few-of (bodiesOf bs) e in
+    let made = rows-made (declaredIn bs) w (few-definitions few) (few-attributes few) txt 0 1 [] false xs (omega arith) shown in
     record { rows = made .rows; serials = made .serials }
 
 -- ---- the next serial comes after the rows
@@ -247,7 +222,7 @@ module _ (s : Store) (g : Good s) where
         fields = fields-at p;
         documents = good-joined (declaredBytes (s .version) (printed s)) bytes-pass (flat (canonical s) .rows) (ap good back ∙ canonical-is) (ap flat back ∙ sym joins);
         serials = ap (λ (n : ℕ). serialsFit n (serialsOfRows (flat (canonical s) .rows))) (sym (next-counted s)) ∙ p .checks .serials;
-        few = rows-few (flat (canonical s)) (p .checks .ceilings);
+        few = few-rows (few-of (flat (canonical s)) (p .checks .ceilings));
       })
     where
       fields-at : FlatPasses (flat (canonical s)) → Every (λ x. RowFits (widthOf (declaredBytes (s .version) (printed s))) (x .row)) (flat (canonical s) .rows)

@@ -1,55 +1,53 @@
 -- The rows that a text shows stand just where the store of the form and the rows passes: the verdict of the row check
 -- is read from the rows' bytes (`documents-judged` of `row_check`), the serials are counted, and the rest is `Joined`.
-use Prim.Native.Nat.{ℕ, zero, suc, _+_, _≤_, _<_}
+use Prim.Native.Nat.{ℕ, _+_, _≤_, _<_}
 use native.Mathlib.Omega.{arith}
 use mathlib.Core.Path.{_≡_, refl, sym, ap, _∙_, subst}
 use mathlib.Core.Logic.{_↔_}
-use mathlib.Core.Bool.{Bool, true, false, _&&_, _||_, not}
-use mathlib.Core.List.{List, [], _∷_, _++_, map, append-nil, List·Memᴰ, Memᴰ·map}
-use lib.Dec.{eqb, leb, ltb, leb→le}
+use mathlib.Core.Bool.{true, _&&_}
+use mathlib.Core.List.{List, [], _∷_, _++_, append-nil, List·Memᴰ, Memᴰ·map}
+use lib.Dec.{leb, ltb, leb→le}
 use lib.ListN.{length, take, drop}
 use lib.Seq.{take-at, drop-at}
 use borrow.Author.Tests.{le-leb, lt-ltb}
-use Rattle.rules.specs.Bytes.{Bytes, numbers, all, to-T, eqb-eq, eqb-of}
-use Rattle.rules.specs.Model.{Distinct, names, distinct}
+use Rattle.rules.specs.Bytes.{Bytes, numbers, to-T}
+use Rattle.rules.specs.Model.{Distinct, names}
 use Rattle.rules.specs.Preorder.{Deep}
-use Rattle.rules.specs.Layout.{rowSize, rowBytes, each, field, FlatRow, FlatStore, flat}
-use Rattle.rules.specs.Decode.{versionIn, readRow, readMany, definitionCount, unflat}
+use Rattle.rules.specs.Layout.{rowSize, rowBytes, each, field, FlatRow}
+use Rattle.rules.specs.Decode.{versionIn, readRow, readMany}
 use Rattle.rules.specs.WellFormed.{isValue, highestNumber}
-use Rattle.rules.specs.Passing.{good, passes}
+use Rattle.rules.specs.Passing.{passes}
 use Rattle.rules.proofs.Words.{and-both, and-split}
-use Rattle.rules.proofs.BooleanLaws.{Every, every-in, every-at, all-of}
+use Rattle.rules.proofs.BooleanLaws.{Every, every-zip, every-in, every-at, all-of}
 use Rattle.rules.proofs.TestLaws.{distinct-test}
 use Rattle.rules.proofs.LayoutLaws.{GoodFlatRow, length-row, read-row, read-each, unle-le, take-field}
 use Rattle.history.proofs.NumberTests.{range, times}
 use Rattle.history.proofs.Numbering.{Spent, spent-distinct, spent-below, spent-more}
-use Rattle.records.specs.Records.{rowFits, eachFits, valueFits}
-use Rattle.records.proofs.RecordLaws.{FittingRow, row-fits}
+use Rattle.reading_rules.proofs.CanonicalGood.{none-spent}
+use Rattle.records.specs.Records.{rowFits, eachFits}
+use Rattle.records.proofs.RecordLaws.{FittingRow, RowParts, row-parts, row-fits, body-fits-whole}
 use Rattle.form_index.specs.Indices.{Documents}
 use Rattle.layout.specs.Bodies.{widthOf}
-use Rattle.layout.specs.Fields.{rowValueAt}
 use Rattle.next_row.specs.Judge.{judge, groundLevel}
 use Rattle.row_step.specs.Machine.{machine}
 use Rattle.row_step.specs.Steps.{noLevels}
 use Rattle.row_check.specs.Verdict.{rowsRead, fieldsFit, verdict}
 use Rattle.row_check.proofs.MachineLaws.{Within}
 use Rattle.row_check.proofs.JudgeLaws.{documents-judged}
+use Rattle.store_check.specs.Check.{byIndex}
 use Rattle.store_check.specs.Reading.{RowFits, serialsOfRows, serialsFit}
-use Rattle.store_check.proofs.StringChecks.{Headed, laid-in, passes-in}
-use Rattle.store_check.proofs.IndexReads.{index-agrees, index-once}
+use Rattle.store_check.proofs.StringChecks.{Headed, laid-in}
+use Rattle.store_check.proofs.IndexReads.{index-once}
+use Rattle.store_check.proofs.BodiesRead.{form-in}
 use Rattle.store_check.proofs.StoreFacts.{headed-of}
-use Rattle.text_reading.specs.Stages.{formByIndex, rowsStand}
-use Rattle.text_reading.proofs.Joined.{RowsJoin, joined, joined-good, good-joined}
+use Rattle.text_reading.specs.Stages.{rowsStand}
+use Rattle.text_reading.proofs.Joined.{RowsJoin}
 use Rattle.text_reading.proofs.RowsMade.{RowBounded}
 
 -- ---- serials from 1 on
-none-spent : Spent 1 []
-unfolding times
-none-spent = record { least = omega arith; once = λ k. omega arith; zero = refl; above = λ k h. refl }
-
 counted-spent : (n : ℕ) → Spent (1 + n) (range 1 n)
 unfolding times
-counted-spent n = spent-more n none-spent (λ k. omega arith)
+counted-spent n = spent-more n (none-spent 1 (omega arith)) (λ k. omega arith)
 
 pub counted-fit : (n : ℕ) → n ≤ 4096 → serialsFit (1 + n) (range 1 n) ≡ true
 unfolding serialsFit
@@ -71,33 +69,16 @@ module _ (w : ℕ) where
       ∙ read-each readRow (rowBytes w) (rowSize w) (GoodFlatRow w) (length-row w) (read-row w) xs [] g
 
   -- the test of a row's bytes tells of the row
-  unless : (a k : ℕ) (b : Bool) → (not (eqb a k) || b) ≡ true → eqb a k ≡ true → b ≡ true
-  unless a k b h e = sym (ap (λ (t : Bool). not t || b) e) ∙ h
-
   fits-told : (x : Deep FlatRow) → GoodFlatRow w x → rowFits w (rowBytes w x) ≡ true → RowFits w (x .row)
-  unfolding rowFits valueFits
   fits-told x g e =
-      let bs : Bytes = rowBytes w x in
       let v : Bytes = x .row .value in
-      let (s, e₁) = and-split (leb 1 (x .row .sort) && leb (x .row .sort) 3) _ e in
-      let (s₀, s₁) = and-split (leb 1 (x .row .sort)) (leb (x .row .sort) 3) s in
-      let (value, e₂) = and-split (valueFits w bs rowValueAt (length v)) _ e₁ in
-      let (v₀, v₁) = and-split (isValue w (take (length v) (field w v ++ (0 ∷ 0 ∷ [])))) _ value in
-      let (element, e₃) = and-split (not (eqb (x .row .sort) 1) || eqb (length v) 0) _ e₂ in
-      let (text, e₄) = and-split (not (eqb (x .row .sort) 3) || eqb (readRow bs .row .index) 0) _ e₃ in
+      let p : RowParts w (rowBytes w x) = row-parts w (rowBytes w x) e in
+      let used : take (length v) (field w v ++ (0 ∷ 0 ∷ [])) ≡ v = take-field w v (0 ∷ 0 ∷ []) (g .value) in
       record {
-        plain = record {
-          low = leb→le 1 _ (to-T s₀);
-          high = leb→le _ 3 (to-T s₁);
-          text = λ q. sym (unle-le 2 (x .row .index) (g .index)) ∙ eqb-eq _ 0 (unless (x .row .sort) 3 _ text (eqb-of _ 3 q));
-        };
-        value = subst (λ (z : Bytes). isValue w z ≡ true) (take-field w v (0 ∷ 0 ∷ []) (g .value)) v₀;
-        element = λ q. empty-of v (eqb-eq (length v) 0 (unless (x .row .sort) 1 _ element (eqb-of _ 1 q)));
+        plain = record { low = p .least; high = p .most; text = λ q. sym (unle-le 2 (x .row .index) (g .index)) ∙ p .text q };
+        value = subst (λ (z : Bytes). isValue w z ≡ true) used (p .value);
+        element = λ q. sym used ∙ ap (λ (n : ℕ). take n (field w v ++ (0 ∷ 0 ∷ []))) (p .element q);
       }
-    where
-      empty-of : (v : Bytes) → length v ≡ 0 → v ≡ []
-      empty-of [] e = refl
-      empty-of (x ∷ v) e = absurd (omega arith)
 
   -- of all rows, one after the other
   each-told : (xs : List (Deep FlatRow)) → Every (GoodFlatRow w) xs → eachFits (rowFits w) (rowSize w) (length xs) (each (rowBytes w) xs) ≡ true → Every (λ x. RowFits w (x .row)) xs
@@ -117,14 +98,9 @@ module _ (w : ℕ) where
       record { least = r .plain .low; most = r .plain .high; value = r .value; element = r .element; text = r .plain .text; index = g .index; serial = g .serial }
 
   each-made : (xs : List (Deep FlatRow)) → Every (GoodFlatRow w) xs → Every (λ x. RowFits w (x .row)) xs → eachFits (rowFits w) (rowSize w) (length xs) (each (rowBytes w) xs) ≡ true
-  unfolding eachFits
-  each-made [] g r = refl
-  each-made (x ∷ xs) g r =
-      let rest : Bytes = each (rowBytes w) xs in
-      let first : take (rowSize w) (rowBytes w x ++ rest) ≡ rowBytes w x = take-at (rowBytes w x) rest (rowSize w) (length-row w x) in
-      let others : drop (rowSize w) (rowBytes w x ++ rest) ≡ rest = drop-at (rowBytes w x) rest (rowSize w) (length-row w x) in
-      and-both (ap (rowFits w) first ∙ row-fits w x (fits-made x (g .0) (r .0)))
-      (ap (eachFits (rowFits w) (rowSize w) (length xs)) others ∙ each-made xs (g .1) (r .1))
+  each-made xs g r =
+      body-fits-whole readRow (rowBytes w) (rowFits w) (rowSize w) (length-row w) xs
+      (every-zip (GoodFlatRow w) (λ x. RowFits w (x .row)) (λ x. rowFits w (rowBytes w x) ≡ true) xs (λ x a b. row-fits w x (fits-made x a b)) g r)
 
 -- ---- the rows of a text
 -- rows that a text shows, the first with serial 1
@@ -151,20 +127,17 @@ module _ (bs : Bytes) (q : passes bs ≡ true) (xs : List (Deep FlatRow)) (c : C
   bytes : Bytes
   bytes = each (rowBytes (widthOf bs)) xs
 
-  sound : (i : ℕ) → i < formByIndex bs .size → Distinct (names (formByIndex bs .model i))
-  sound i l =
-      let d : Headed bs = headed-of q in
-      let form = passes-in d (formByIndex bs) (λ x. index-agrees (laid-in d) (x .passes) (versionIn bs)) .0 q .0 in
-      index-once (laid-in d) (form .passes) (versionIn bs) i l
+  sound : (i : ℕ) → i < byIndex bs .size → Distinct (names (byIndex bs .model i))
+  sound i l = let d : Headed bs = headed-of q in index-once (laid-in d) (form-in d q .passes) (versionIn bs) i l
 
   told : Every (GoodFlatRow (widthOf bs)) xs
-      → (machine (judge (formByIndex bs)) groundLevel noLevels 1 (rowsRead (widthOf bs) (length xs) (each (rowBytes (widthOf bs)) xs)) ≡ true) ↔ Documents (formByIndex bs) xs
+      → (machine (judge (byIndex bs)) groundLevel noLevels 1 (rowsRead (widthOf bs) (length xs) (each (rowBytes (widthOf bs)) xs)) ≡ true) ↔ Documents (byIndex bs) xs
   unfolding noLevels
   told g =
       subst
-      (λ (ys : List (Deep FlatRow)). (machine (judge (formByIndex bs)) groundLevel noLevels 1 ys ≡ true) ↔ Documents (formByIndex bs) xs)
+      (λ (ys : List (Deep FlatRow)). (machine (judge (byIndex bs)) groundLevel noLevels 1 ys ≡ true) ↔ Documents (byIndex bs) xs)
       (sym (rows-back (widthOf bs) xs g))
-      (documents-judged (formByIndex bs) sound 256 xs noLevels refl refl (within-made (widthOf bs) xs (c .rows)))
+      (documents-judged (byIndex bs) sound 256 xs noLevels refl refl (within-made (widthOf bs) xs (c .rows)))
 
   -- they stand: so they join
   pub stand-join : rowsStand bs xs ≡ true → RowsJoin bs xs

@@ -15,30 +15,17 @@ use Rattle.rules.specs.Outcome.{Outcome, refused, unlessRefused}
 use Rattle.rules.specs.Print.{tooLong}
 use Rattle.printing.specs.Texts.{textOf}
 use Rattle.row_check.specs.Verdict.{verdict}
-use Rattle.form_index.specs.Indices.{IndexForm}
-use Rattle.form_index.specs.Reading.{indexForm}
-use Rattle.rules.specs.Decode.{versionIn, definitionCount, attributeCount}
-use Rattle.layout.specs.Bodies.{widthOf, definitionsIn, particlesIn, attributesIn}
+use Rattle.layout.specs.Bodies.{widthOf}
+use Rattle.store_laws.specs.Forms.{reformed}
+use Rattle.store_check.specs.Check.{byIndex}
 use Rattle.lookup.specs.Bodies.{bodiesOf}
 use Rattle.form_front.specs.Front.{frontStands}
 use Rattle.declaration_scan.specs.Declared.{declaredForm}
-use Rattle.document_tokens.specs.Tokens.{Declared, declaredIn, documentRows}
+use Rattle.document_tokens.specs.Tokens.{declaredIn, documentRows}
 
 -- a store's form, with other rows and a next serial after them
 abbrev pub withDocuments : FlatStore → List (Deep FlatRow) → FlatStore
-withDocuments f xs =
-    record {
-      version = f .version;
-      next = 1 + length xs;
-      definitions = f .definitions;
-      particles = f .particles;
-      attributes = f .attributes;
-      rows = xs;
-    }
-
--- the form by index that the bytes of a store say
-abbrev pub formByIndex : Bytes → IndexForm
-formByIndex bs = indexForm (versionIn bs) (widthOf bs) (definitionCount bs) (definitionsIn bs) (particlesIn bs) (attributesIn bs) (attributeCount bs)
+withDocuments f xs = reformed f f (1 + length xs) xs
 
 module _ (version : ℕ) (txt : Bytes) where
   abbrev pub readWidth : ℕ
@@ -63,7 +50,7 @@ module _ (version : ℕ) (txt : Bytes) where
 
 -- rows that the store of the bytes `bs` may hold
 unfoldable pub rowsStand : Bytes → List (Deep FlatRow) → Bool
-rowsStand bs xs = leb (length xs) 4096 && verdict (widthOf bs) (formByIndex bs) (length xs) (each (rowBytes (widthOf bs)) xs)
+rowsStand bs xs = leb (length xs) 4096 && verdict (widthOf bs) (byIndex bs) (length xs) (each (rowBytes (widthOf bs)) xs)
 
 abbrev pub ifRows : (List (Deep FlatRow) → Outcome) → Option (List (Deep FlatRow)) → Outcome
 ifRows f none = refused 19

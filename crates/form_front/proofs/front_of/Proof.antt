@@ -7,7 +7,8 @@ use lib.ListN.{length-replicate}
 use borrow.Author.Needs.{needs}
 use Rattle.form_front.proofs.front_of.Statement.{statement}
 use Rattle.form_front.proofs.front_of.Tie as tie
-use Rattle.form_front.proofs.FrontLaws.{within-counts, front-long, front-tested, front-room}
+use Rattle.printing.proofs.FormLaws.{within-counts}
+use Rattle.form_front.proofs.FrontLaws.{front-long, front-tested, front-room}
 
 slice-aggregate-print-store : tie.Need-slice-aggregate-print-store
 slice-aggregate-print-store c = search needs

@@ -1,12 +1,12 @@
 -- `print_call::print` meets its contract: the call is refused with 1 on a bad store (`prints-bad` of Laws). The first
 -- print tells the length of the text, so that one longer than `out` is refused with 18 (`prints-short`) and any other
--- is written whole (`prints-all`). A store that passes has what `print_store` requires (`within-counts`).
+-- is written whole (`prints-all`). A store that passes has what `print_store` requires (`within-passed`).
 use native.Mathlib.Omega.{arith}
 use Rattle.store_writer.proofs.LimitLaws.{answers-as}
 use borrow.Author.Needs.{needs}
 use Rattle.print_call.proofs.print.Statement.{statement}
 use Rattle.print_call.proofs.print.Tie as tie
-use Rattle.print_call.proofs.Laws.{within-counts, prints-bad, prints-short, prints-all}
+use Rattle.print_call.proofs.Laws.{within-passed, prints-bad, prints-short, prints-all}
 
 passes-requires : tie.Need-passes-requires
 passes-requires c κs = search needs
@@ -29,7 +29,7 @@ print-store-requires : tie.Need-print-store-requires
 print-store-requires c κs =
     let at-passes = c .before .before in
     let start = at-passes .before .before .before in
-    within-counts (start .args .store .now) (c .before .if1 .left) (at-passes .passes .ensures)
+    within-passed (start .args .store .now) (c .before .if1 .left) (at-passes .passes .ensures)
 
 refused-requires-2 : tie.Need-refused-requires-2
 refused-requires-2 c κs = search needs
@@ -49,7 +49,7 @@ print-store-requires-2 c κs =
     let at-if1 = c .before .before .before .before .before in
     let at-passes = at-if1 .before in
     let start = at-passes .before .before .before in
-    within-counts (start .args .store .now) (at-if1 .if1 .left) (at-passes .passes .ensures)
+    within-passed (start .args .store .now) (at-if1 .if1 .left) (at-passes .passes .ensures)
 
 same-length : tie.Need-same-length
 same-length c = search needs

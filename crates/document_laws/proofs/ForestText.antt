@@ -14,8 +14,9 @@ use Rattle.rules.specs.Decode.{nameAt, rowSortOf, rowName, readRows}
 use Rattle.rules.specs.Print.{Tokens, escape, rowTokens, documentLines}
 use Rattle.rules.proofs.PreorderLaws.{Ends, ends-after}
 use Rattle.rules.proofs.BooleanLaws.{concat-append}
+use Rattle.reading_rules.proofs.Documents.{startSign}
 use Rattle.document_tokens.specs.Tokens.{Declared, declaredNames}
-use Rattle.document_laws.specs.RowsText.{startEnd, attributeNamesIn, textOfRows}
+use Rattle.document_laws.specs.RowsText.{attributeNamesIn, textOfRows}
 use Rattle.document_laws.proofs.RowsTextLaws.{text-end, text-element, text-attribute, text-content}
 
 -- ---- tokens before a rest
@@ -79,7 +80,7 @@ module _ (f : Declared) where
   -- rows below the innermost element, before rows that are less deep
   abbrev Printed : ℕ → List ℕ → Bool → Forest FlatRow → List (Deep FlatRow) → Type 0
   Printed o others tag g more =
-      textOfRows f (o ∷ others) tag (preorder (suc (length others)) g ++ more) ≡ concat (rowTokens (startEnd tag) (named g)) ++ textOfRows f (o ∷ others) false more
+      textOfRows f (o ∷ others) tag (preorder (suc (length others)) g ++ more) ≡ concat (rowTokens (startSign tag) (named g)) ++ textOfRows f (o ∷ others) false more
 
   nothing-left : (o : ℕ) (others : List ℕ) (tag : Bool) (more : List (Deep FlatRow)) → Ends (suc (length others)) more → Printed o others tag bare more
   nothing-left o others tag more l = rw (text-end f o others tag more l, text-end f o others false more l) (simp append-assoc)
@@ -100,18 +101,18 @@ module _ (f : Declared) where
       text-end f i (o ∷ others) false later short ∙ ap (λ (z : Bytes). 60 ∷ 47 ∷ z) (append-assoc n (62 ∷ []) (textOfRows f (o ∷ others) false later)) in
       text-element f (o ∷ others) (below-row others r) ((preorder (suc (suc (length others))) b ++ preorder (suc (length others)) t) ++ more) (omega arith) tag e
       ∙ rw (append-assoc (preorder (suc (suc (length others))) b) (preorder (suc (length others)) t) more, below i later short, ended, after false)
-      (rw is refl ∙ sym (element-printed (startEnd tag) (rowRead r) (named b) (named t) (textOfRows f (o ∷ others) false more) e))
+      (rw is refl ∙ sym (element-printed (startSign tag) (rowRead r) (named b) (named t) (textOfRows f (o ∷ others) false more) e))
   row-left o others tag r b t more leaf below after l attribute e =
       let is : rowRead r .name ≡ nameAt (r .index) (attributeNamesIn f) = ap (λ (s : RowSort). rowName (declaredNames f) (attributeNamesIn f) s (r .index)) e in
       rw (leaf (λ h. let z : element ≡ attribute = sym h ∙ e in absurd (element-apart z)))
       (text-attribute f (o ∷ others) (below-row others r) (preorder (suc (length others)) t ++ more) (omega arith) tag e
       ∙ rw (after tag) (rw is refl)
-      ∙ sym (attribute-printed (startEnd tag) (rowRead r) bare (named t) (textOfRows f (o ∷ others) false more) e))
+      ∙ sym (attribute-printed (startSign tag) (rowRead r) bare (named t) (textOfRows f (o ∷ others) false more) e))
   row-left o others tag r b t more leaf below after l text e =
       rw (leaf (λ h. let z : element ≡ text = sym h ∙ e in absurd (text-apart z)))
       (text-content f (o ∷ others) (below-row others r) (preorder (suc (length others)) t ++ more) (omega arith) tag e
       ∙ rw (after false) refl
-      ∙ sym (text-printed (startEnd tag) (rowRead r) bare (named t) (textOfRows f (o ∷ others) false more) e))
+      ∙ sym (text-printed (startSign tag) (rowRead r) bare (named t) (textOfRows f (o ∷ others) false more) e))
 
   pub rows-printed : (g : Forest FlatRow) → Leaves g → (o : ℕ) (others : List ℕ) (tag : Bool) (more : List (Deep FlatRow)) → Ends (suc (length others)) more → Printed o others tag g more
   unfolding Leaves

@@ -16,8 +16,9 @@ use Rattle.rules.specs.Print.{escape}
 use Rattle.rules.proofs.PreorderLaws.{Ends}
 use Rattle.reading_rules.proofs.Models.{NameStops}
 use Rattle.reading_rules.proofs.Declarations.{name-stops}
+use Rattle.reading_rules.proofs.Documents.{startSign}
 use Rattle.document_tokens.specs.Tokens.{Declared, declaredNames, endTag}
-use Rattle.document_laws.specs.RowsText.{startEnd, endTags, openedAbove, attributeNamesIn, textOfRow, textOfRows}
+use Rattle.document_laws.specs.RowsText.{endTags, openedAbove, attributeNamesIn, textOfRow, textOfRows}
 
 -- the first row is no deeper than what is opened, and an element where it is as deep and the start tag is ended
 pub record Next (opened : List ℕ) (tag : Bool) (x : Deep FlatRow) : Type 0 where
@@ -30,14 +31,14 @@ Follows opened tag (x ∷ xs) = Next opened tag x
 
 -- ---- a row by its sort
 module _ (f : Declared) (opened : List ℕ) (tag : Bool) (r : FlatRow) (rest : List ℕ → Bool → Bytes) where
-  element-text : rowSortOf (r .sort) ≡ element → textOfRow f opened tag r rest ≡ startEnd tag ++ (60 ∷ (nameAt (r .index) (declaredNames f) ++ rest (r .index ∷ opened) true))
+  element-text : rowSortOf (r .sort) ≡ element → textOfRow f opened tag r rest ≡ startSign tag ++ (60 ∷ (nameAt (r .index) (declaredNames f) ++ rest (r .index ∷ opened) true))
   element-text e = rw (e, textOfRow)
 
   attribute-text : rowSortOf (r .sort) ≡ attribute
       → textOfRow f opened tag r rest ≡ 32 ∷ (nameAt (r .index) (attributeNamesIn f) ++ (61 ∷ 34 ∷ (escape (r .value) ++ (34 ∷ rest opened tag))))
   attribute-text e = rw (e, textOfRow)
 
-  content-text : rowSortOf (r .sort) ≡ text → textOfRow f opened tag r rest ≡ startEnd tag ++ (escape (r .value) ++ rest opened false)
+  content-text : rowSortOf (r .sort) ≡ text → textOfRow f opened tag r rest ≡ startSign tag ++ (escape (r .value) ++ rest opened false)
   content-text e = rw (e, textOfRow)
 
 -- ---- what is ended before a row
@@ -66,7 +67,7 @@ unfolding textOfRows
 text-deep f opened tag x xs l = rw (le-ltb (x .depth) (length opened) l, textOfRows)
 
 text-shallow : (f : Declared) (opened : List ℕ) (tag : Bool) (x : Deep FlatRow) (xs : List (Deep FlatRow)) → x .depth < length opened
-    → textOfRows f opened tag (x ∷ xs) ≡ startEnd tag ++ (endTags f (x .depth) opened ++ textOfRow f (openedAbove (x .depth) opened) false (x .row) (λ o t. textOfRows f o t xs))
+    → textOfRows f opened tag (x ∷ xs) ≡ startSign tag ++ (endTags f (x .depth) opened ++ textOfRow f (openedAbove (x .depth) opened) false (x .row) (λ o t. textOfRows f o t xs))
 unfolding textOfRows
 text-shallow f opened tag x xs l = rw (lt-ltb (x .depth) (length opened) l, textOfRows)
 
@@ -89,14 +90,14 @@ ends-none f [] = refl
 ends-none f (o ∷ others) = refl
 
 pub text-end : (f : Declared) (o : ℕ) (others : List ℕ) (tag : Bool) (rows : List (Deep FlatRow)) → Ends (suc (length others)) rows
-    → textOfRows f (o ∷ others) tag rows ≡ startEnd tag ++ (endTag f o (length others) ++ textOfRows f others false rows)
+    → textOfRows f (o ∷ others) tag rows ≡ startSign tag ++ (endTag f o (length others) ++ textOfRows f others false rows)
 text-end f o others tag [] l = rw (ends-none f others) (last f o others tag)
   where
-    last : (f : Declared) (o : ℕ) (others : List ℕ) (tag : Bool) → textOfRows f (o ∷ others) tag [] ≡ startEnd tag ++ (endTag f o (length others) ++ endTags f 0 others)
-    last f o others tag = unfold textOfRows in ap (λ (z : Bytes). startEnd tag ++ z) (ended-one f 0 o others (omega arith))
+    last : (f : Declared) (o : ℕ) (others : List ℕ) (tag : Bool) → textOfRows f (o ∷ others) tag [] ≡ startSign tag ++ (endTag f o (length others) ++ endTags f 0 others)
+    last f o others tag = unfold textOfRows in ap (λ (z : Bytes). startSign tag ++ z) (ended-one f 0 o others (omega arith))
 text-end f o others tag (x ∷ xs) l =
     rw (text-shallow f (o ∷ others) tag x xs l, ended-one f (x .depth) o others l, kept-less (x .depth) o others l, text-ended f others x xs)
-    (ap (λ (z : Bytes). startEnd tag ++ z) (append-assoc (endTag f o (length others)) (endTags f (x .depth) others) _))
+    (ap (λ (z : Bytes). startSign tag ++ z) (append-assoc (endTag f o (length others)) (endTags f (x .depth) others) _))
 
 pub text-start : (f : Declared) (o : ℕ) (others : List ℕ) (rows : List (Deep FlatRow)) → Follows (o ∷ others) false rows
     → textOfRows f (o ∷ others) true rows ≡ 62 ∷ textOfRows f (o ∷ others) false rows
@@ -115,14 +116,14 @@ text-start f o others (x ∷ xs) n = by (ltb (x .depth) (suc (length others))) r
 
 module _ (f : Declared) (opened : List ℕ) (x : Deep FlatRow) (xs : List (Deep FlatRow)) (deep : length opened ≤ x .depth) where
   pub text-element : (tag : Bool) → rowSortOf (x .row .sort) ≡ element
-      → textOfRows f opened tag (x ∷ xs) ≡ startEnd tag ++ (60 ∷ (nameAt (x .row .index) (declaredNames f) ++ textOfRows f (x .row .index ∷ opened) true xs))
+      → textOfRows f opened tag (x ∷ xs) ≡ startSign tag ++ (60 ∷ (nameAt (x .row .index) (declaredNames f) ++ textOfRows f (x .row .index ∷ opened) true xs))
   text-element tag e = text-deep f opened tag x xs deep ∙ element-text f opened tag (x .row) (λ o t. textOfRows f o t xs) e
 
   pub text-attribute : (tag : Bool) → rowSortOf (x .row .sort) ≡ attribute
       → textOfRows f opened tag (x ∷ xs) ≡ 32 ∷ (nameAt (x .row .index) (attributeNamesIn f) ++ (61 ∷ 34 ∷ (escape (x .row .value) ++ (34 ∷ textOfRows f opened tag xs))))
   text-attribute tag e = text-deep f opened tag x xs deep ∙ attribute-text f opened tag (x .row) (λ o t. textOfRows f o t xs) e
 
-  pub text-content : (tag : Bool) → rowSortOf (x .row .sort) ≡ text → textOfRows f opened tag (x ∷ xs) ≡ startEnd tag ++ (escape (x .row .value) ++ textOfRows f opened false xs)
+  pub text-content : (tag : Bool) → rowSortOf (x .row .sort) ≡ text → textOfRows f opened tag (x ∷ xs) ≡ startSign tag ++ (escape (x .row .value) ++ textOfRows f opened false xs)
   text-content tag e = text-deep f opened tag x xs deep ∙ content-text f opened tag (x .row) (λ o t. textOfRows f o t xs) e
 
 -- after the name in a start tag no byte of a name comes

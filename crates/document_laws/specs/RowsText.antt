@@ -4,18 +4,14 @@ use mathlib.Core.Bool.{Bool, true, false}
 use mathlib.Core.List.{List, [], _∷_, _++_, map}
 use lib.Dec.{ltb}
 use lib.ListN.{length}
-use Rattle.rules.specs.Bytes.{Bytes, ascii}
+use Rattle.rules.specs.Bytes.{Bytes}
 use Rattle.rules.specs.Store.{element, attribute, text}
 use Rattle.rules.specs.Preorder.{Deep}
 use Rattle.rules.specs.Layout.{FlatRow}
 use Rattle.rules.specs.Decode.{nameAt, flatAttributeName, rowSortOf}
 use Rattle.rules.specs.Print.{escape}
+use Rattle.reading_rules.proofs.Documents.{startSign}
 use Rattle.document_tokens.specs.Tokens.{Declared, declaredNames, endTag}
-
--- what ends a start tag that is not ended yet
-abbrev pub startEnd : Bool → Bytes
-startEnd true = ascii ">"
-startEnd false = []
 
 -- the end tags of the elements that are opened at depth d and below, the innermost first, and the elements above
 unfoldable pub endTags : Declared → ℕ → List ℕ → Bytes
@@ -33,16 +29,16 @@ attributeNamesIn f = map flatAttributeName (f .attributes)
 abbrev pub textOfRow : Declared → List ℕ → Bool → FlatRow → (List ℕ → Bool → Bytes) → Bytes
 textOfRow f opened tag r rest =
     elim (rowSortOf (r .sort)) [
-      | element ↦ startEnd tag ++ (60 ∷ (nameAt (r .index) (declaredNames f) ++ rest (r .index ∷ opened) true))
+      | element ↦ startSign tag ++ (60 ∷ (nameAt (r .index) (declaredNames f) ++ rest (r .index ∷ opened) true))
       | attribute ↦ 32 ∷ (nameAt (r .index) (attributeNamesIn f) ++ (61 ∷ 34 ∷ (escape (r .value) ++ (34 ∷ rest opened tag))))
-      | text ↦ startEnd tag ++ (escape (r .value) ++ rest opened false)
+      | text ↦ startSign tag ++ (escape (r .value) ++ rest opened false)
     ]
 
 -- before a row that is less deep, elements are ended
 unfoldable pub textOfRows : Declared → List ℕ → Bool → List (Deep FlatRow) → Bytes
-textOfRows f opened tag [] = elim opened [ [] ↦ [] | o ∷ others ↦ startEnd tag ++ endTags f 0 (o ∷ others) ]
+textOfRows f opened tag [] = elim opened [ [] ↦ [] | o ∷ others ↦ startSign tag ++ endTags f 0 (o ∷ others) ]
 textOfRows f opened tag (x ∷ xs) =
     elim (ltb (x .depth) (length opened)) [
-      | true ↦ startEnd tag ++ (endTags f (x .depth) opened ++ textOfRow f (openedAbove (x .depth) opened) false (x .row) (λ o t. textOfRows f o t xs))
+      | true ↦ startSign tag ++ (endTags f (x .depth) opened ++ textOfRow f (openedAbove (x .depth) opened) false (x .row) (λ o t. textOfRows f o t xs))
       | false ↦ textOfRow f opened tag (x .row) (λ o t. textOfRows f o t xs)
     ]

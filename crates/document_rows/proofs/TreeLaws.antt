@@ -146,7 +146,7 @@ module _ (form : Form) where
                 rest = written d owner t ++ rest;
                 stands = inl (refl, refl);
                 rows = ap (seek p) joined ∙ seek-this p x more (test ∙ e);
-                ends = ends-after d owner t rest h;
+                ends = ends-after d (indexed form owner t) rest h;
               },
               e,
             )

@@ -3,7 +3,6 @@
 -- needs is refused inside the rounds and comes behind them; what is removed goes from each round; what may stand in a
 -- round is added to the one that is meant.
 use Prim.Native.Nat.{ℕ}
-use Prim.Native.String.{String}
 use mathlib.Core.Path.{_≡_, refl}
 use mathlib.Core.Option.{some}
 use mathlib.Core.List.{List, [], _∷_, map}
@@ -12,7 +11,7 @@ use Rattle.rules.specs.declared.GroupKind.the-variants.{Sequence}
 use Rattle.rules.specs.Bytes.{Bytes, ascii, concat}
 use Rattle.rules.specs.Model.{done, el, group, names, member, full, distinct}
 use Rattle.rules.specs.Automaton.{accepts, continues, facts}
-use Rattle.rules.specs.Store.{Content, empty, complex, Definition, element, Row, bare, tree, Store}
+use Rattle.rules.specs.Store.{empty, complex, bare, tree, Store}
 use Rattle.rules.specs.Layout.{valueWidth, baseVersion}
 use Rattle.rules.specs.Decode.{confirm, nextSerial}
 use Rattle.rules.specs.WellFormed.{goodDefinition, wellFormed}
@@ -34,6 +33,7 @@ use Rattle.history.specs.History.{takenSerials, serialsIn, momentOf}
 use Rattle.reading_rules.specs.Reader.{membersOfText, contentOfText, attributesOfText, definitionOfText, formOfText}
 use Rattle.reading_rules.specs.Reader.{rowsOfText, documentsOfText, parsed}
 use Rattle.reading_rules.specs.Reading.{readText}
+use Rattle.reading_rules.proofs.Examples.{defined, elementNumbered}
 use Rattle.reading_history.specs.ReadStart.{ReadStart, Demand3OfReading}
 use Rattle.reading_history.proofs.StartLaws.{start-read, demand-3-of-reading}
 
@@ -44,12 +44,6 @@ roundsText =
     ∷ ascii "<!ELEMENT a EMPTY>\n<!ELEMENT b EMPTY>\n<!ELEMENT c EMPTY>\n"
     ∷ ascii "<r><a></a><b></b><a></a><b></b></r>\n"
     ∷ [])
-
-abbrev defined : String → Content → Definition
-defined n k = record { name = ascii n; content = k; attributes = [] }
-
-abbrev elementNumbered : ℕ → String → Row
-elementNumbered k n = record { serial = k; sort = element; name = ascii n; value = [] }
 
 -- r 1 with a 2, b 3, a 4, b 5
 abbrev rounds : Store

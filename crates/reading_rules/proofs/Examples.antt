@@ -24,10 +24,10 @@ use Rattle.reading_rules.specs.Reader.{rowsOfText, documentsOfText, pars
 use Rattle.reading_rules.specs.Reading.{readText, readOutcome}
 
 -- ---- small stores
-abbrev defined : String → Content → Definition
+abbrev pub defined : String → Content → Definition
 defined n k = record { name = ascii n; content = k; attributes = [] }
 
-abbrev elementNumbered : ℕ → String → Row
+abbrev pub elementNumbered : ℕ → String → Row
 elementNumbered k n = record { serial = k; sort = element; name = ascii n; value = [] }
 
 abbrev storeHaving : ℕ → Form → Forest Row → Store

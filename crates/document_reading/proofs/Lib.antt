@@ -1,2 +1,3 @@
+pub mod FormLaws
 pub mod FitLaws
 pub mod LoopLaws

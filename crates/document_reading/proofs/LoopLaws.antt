@@ -14,6 +14,7 @@ use Rattle.rules.specs.Bytes.{Bytes, isNone}
 use Rattle.rules.specs.Preorder.{Deep}
 use Rattle.rules.specs.Layout.{FlatRow, rowSize, rowBytes, each}
 use Rattle.codec.proofs.Writers.{laid-long}
+use Rattle.layout.specs.Bodies.{widthOf, WidthIn}
 use Rattle.form_index.specs.Indices.{IndexForm}
 use Rattle.next_row.specs.declared.Level.{Level}
 use Rattle.row_step.specs.Steps.{State, noLevels, startState, end, stateOf}
@@ -31,6 +32,13 @@ use Rattle.document_reading.proofs.FitLaws.{fit-refused, fit-taken, fit
 pub goes-further : (exact : Bool) (m : ℕ) → (not exact || ltb 4096 m) ≡ false → (exact ≡ true) × (m ≤ 4096)
 goes-further true m e = (refl, ltb-false 4096 m e)
 goes-further false m e = absurd (false≢true (sym e))
+
+-- what was put at a width that is the one of a form's bytes
+pub put-at : {form : Bytes} {w : ℕ} → WidthIn form w → {d : Declared} {txt : Bytes} {m : ℕ} {opened : Bytes} {depth : ℕ} {tag : Bool} {limit : ℕ} {out : Bytes} {at : ℕ}
+    {exact : Bool} {size m′ : ℕ} {opened′ : Bytes} {depth′ : ℕ} {tag′ : Bool} {out′ : Bytes} {at′ : ℕ} → SomePut w d txt m opened depth tag limit out at exact size m′ opened′ depth′ tag′ out′ at′
+    → SomePut (widthOf form) d txt m opened depth tag limit out at exact size m′ opened′ depth′ tag′ out′ at′
+put-at {form} {w} v {d} {txt} {m} {opened} {depth} {tag} {limit} {out} {at} {exact} {size} {m′} {opened′} {depth′} {tag′} {out′} {at′} p =
+    subst (λ (u : ℕ). SomePut u d txt m opened depth tag limit out at exact size m′ opened′ depth′ tag′ out′ at′) (v .value) p
 
 -- m rows came, and those from here on are left
 pub record Judging (w : ℕ) (f : IndexForm) (d : Declared) (rows : Option (List (Deep FlatRow))) (s : List ℕ) (live : ℕ) (opened : Bytes) (depth : ℕ) (tag : Bool) (m : ℕ) (t : Bytes) : Type 0 where

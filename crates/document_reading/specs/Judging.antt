@@ -6,11 +6,20 @@ use mathlib.Core.Option.{Option, none, some}
 use mathlib.Core.List.{List}
 use lib.Dec.{leb}
 use lib.ListN.{length}
+use Rattle.rules.specs.Bytes.{Bytes}
 use Rattle.rules.specs.Preorder.{Deep}
 use Rattle.rules.specs.Layout.{FlatRow, rowBytes, each}
+use Rattle.rules.specs.Decode.{numberAt, definitionCount, attributeCount}
+use Rattle.layout.specs.Fields.{versionAt}
+use Rattle.layout.specs.Bodies.{widthOf, definitionsIn, particlesIn, attributesIn}
 use Rattle.form_index.specs.Indices.{IndexForm}
+use Rattle.form_table.specs.Table.{Tabled}
 use Rattle.row_step.specs.Steps.{State, startState, walk, stateEnds}
 use Rattle.document_row_writer.specs.Putting.{rowsOr}
+
+-- the table of the form that these bytes say
+pub record TableOf (bs : Bytes) (table : List ℕ) : Type 0 where
+  pub is : Tabled (numberAt versionAt 4 bs) (widthOf bs) (definitionCount bs) (definitionsIn bs) (particlesIn bs) (attributesIn bs) (attributeCount bs) table
 
 -- the verdict on rows that come after m others, from a state on: with those they are no more than a store has, and each
 -- may come

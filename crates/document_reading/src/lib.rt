@@ -1,19 +1,86 @@
 //! The rows that the documents of a text say, judged: some rows at a time, written into an array.
 use document_row_writer::Place;
 ghost use mathlib.Core.Path.{_≡_};
-ghost use Prim.Native.Nat.{_≤_};
+ghost use mathlib.Core.Bool.{true};
+ghost use Prim.Native.Nat.{_*_, _≤_};
 ghost use lib.ListN.{length};
-ghost use Rattle.layout.specs.Bodies.{Width};
-ghost use Rattle.form_index.specs.Reading.{indexForm};
-ghost use Rattle.form_table.specs.Table.{Tabled};
-ghost use Rattle.document_tokens.specs.Telling.{FormRoom};
+ghost use Rattle.rules.specs.Layout.{rowSize};
+ghost use Rattle.rules.specs.Passing.{passes};
+ghost use Rattle.layout.specs.Bodies.{widthOf};
+ghost use Rattle.row_step.specs.Steps.{end, stateOf};
+ghost use Rattle.row_check.specs.Stepping.{StepsMade};
+ghost use Rattle.store_check.specs.Check.{byIndex};
 ghost use Rattle.document_row_writer.specs.Putting.{documentsIn};
-ghost use Rattle.document_reading.specs.Judging.{Judges};
+ghost use Rattle.document_reading.specs.Judging.{TableOf, Judges};
 
 // So many rows are judged at a time; and their bytes, where a row has at most 267.
 const BATCH: usize = 16;
 
 const BATCH_BYTES: usize = 4272;
+
+// ---- rows, by the bytes of a form
+
+// Whether rows may come next.
+fn rows_come(
+    form: &[u8],
+    table: &[u64],
+    levels: &mut [u32; 771],
+    live: &mut usize,
+    rows: &[u8],
+    count: usize,
+) -> bool
+    requires { ⌜ (passes (now form) ≡ true) × TableOf (now form) (now table) × (rowSize (widthOf (now form)) * count ≤ length (now rows))
+        × (length (now levels) ≡ 771) × (now live ≤ 257) ⌝ }
+    ensures { λ r. ⌜ StepsMade (widthOf (now (form .entry))) (byIndex (now (form .entry))) (now (levels .entry)) (now (live .entry)) count (now (rows .entry))
+        r (now (levels .exit)) (now (live .exit)) ⌝ }
+{
+    let s = layout::shape_of(form);
+    let defs = layout::definition_body(form, s);
+    let parts = layout::particle_body(form, s);
+    let attrs = layout::attribute_body(form, s);
+    row_check::steps(
+        s.version as usize,
+        s.width,
+        s.definitions,
+        defs,
+        parts,
+        s.attributes,
+        attrs,
+        table,
+        levels,
+        live,
+        rows,
+        count,
+    )
+}
+
+// Whether the rows may end.
+fn rows_end(form: &[u8], table: &[u64], levels: &[u32; 771], live: usize) -> bool
+    requires { ⌜ (passes (now form) ≡ true) × TableOf (now form) (now table) × (live ≤ 257) ⌝ }
+    ensures { λ r. ⌜ r ≡ end (byIndex (now (form .entry))) (stateOf (now (levels .entry)) live) ⌝ }
+{
+    let s = layout::shape_of(form);
+    let defs = layout::definition_body(form, s);
+    let parts = layout::particle_body(form, s);
+    let attrs = layout::attribute_body(form, s);
+    let version = s.version as usize;
+    let n = s.definitions;
+    let a = s.attributes;
+    row_step::end(
+        version,
+        s.width,
+        n,
+        defs,
+        parts,
+        a,
+        attrs,
+        table,
+        levels,
+        live,
+    )
+}
+
+// ---- documents
 
 /// Whether the rows of documents fit, and how many they are if they do.
 pub struct Judged {
@@ -27,27 +94,16 @@ fn verdict(fits: bool, rows: usize) -> Judged
     Judged { fits, rows }
 }
 
-/// Judges the documents of a text by a form: its own bytes, and its bodies of n definitions and a attributes with
-/// their table.
-pub fn judge_documents(
-    version: usize,
-    w: usize,
-    n: usize,
-    defs: &[u8],
-    parts: &[u8],
-    a: usize,
-    attrs: &[u8],
-    form: &[u8],
-    table: &[u64],
-    text: &[u8],
-) -> Judged
-    requires { ⌜ Width w × (n ≤ 64) × (a ≤ 64) × Tabled version w n (now defs) (now parts) (now attrs) a (now table) × FormRoom (now form) ⌝ }
-    ensures { λ r. ⌜ Judges w (indexForm version w n (now (defs .entry)) (now (parts .entry)) (now (attrs .entry)) a) (documentsIn w (now (form .entry)) (now (text .entry))) (r .fits) (r .rows) ⌝ }
+// Judges the documents of a text by a form and its table.
+fn judge_by(form: &[u8], table: &[u64], text: &[u8]) -> Judged
+    requires { ⌜ (passes (now form) ≡ true) × TableOf (now form) (now table) ⌝ }
+    ensures { λ r. ⌜ Judges (widthOf (now (form .entry))) (byIndex (now (form .entry))) (documentsIn (widthOf (now (form .entry))) (now (form .entry)) (now (text .entry)))
+        (r .fits) (r .rows) ⌝ }
 {
+    let w = layout::width_in(form);
     let mut levels = [0; 771];
     let mut live = 1;
     let mut opened = [0; 256];
-    let mut value = [0; 256];
     let mut rows = [0; BATCH_BYTES];
     let mut place = Place {
         depth: 0,
@@ -57,34 +113,20 @@ pub fn judge_documents(
     let mut t = text;
     while 0 < t.len() {
         let before = place.count;
-        let put = document_row_writer::put_rows(
-            w,
-            form,
-            &mut opened,
-            place,
-            before + BATCH,
-            t,
-            &mut value,
-            &mut rows,
-            0,
-        );
+        let most = before + BATCH;
+        let put = document_row_writer::put_rows(w, form, &mut opened, place, most, t, &mut rows, 0);
         place = put.place;
         if !put.exact | (layout::MAX_ROWS < place.count) {
             return verdict(false, 0);
         }
         let end = put.at;
-        if !row_check::steps(
-            version,
-            w,
-            n,
-            defs,
-            parts,
-            a,
-            attrs,
+        let read = &rows[..end];
+        if !rows_come(
+            form,
             table,
             &mut levels,
             &mut live,
-            &rows[..end],
+            read,
             place.count - before,
         ) {
             return verdict(false, 0);
@@ -92,6 +134,24 @@ pub fn judge_documents(
         let rest = codec::after(t, put.size);
         t = rest;
     }
-    let ends = row_step::end(version, w, n, defs, parts, a, attrs, table, &levels, live);
+    let ends = rows_end(form, table, &levels, live);
     verdict((place.depth == 0) & ends, place.count)
+}
+
+/// Judges the documents of a text by a form that passes.
+pub fn judge_documents(form: &[u8], text: &[u8]) -> Judged
+    requires { ⌜ passes (now form) ≡ true ⌝ }
+    ensures { λ r. ⌜ Judges (widthOf (now (form .entry))) (byIndex (now (form .entry))) (documentsIn (widthOf (now (form .entry))) (now (form .entry)) (now (text .entry)))
+        (r .fits) (r .rows) ⌝ }
+{
+    let s = layout::shape_of(form);
+    let defs = layout::definition_body(form, s);
+    let parts = layout::particle_body(form, s);
+    let attrs = layout::attribute_body(form, s);
+    let version = s.version as usize;
+    let n = s.definitions;
+    let a = s.attributes;
+    let mut table: [u64; form_table::TABLE] = [0; form_table::TABLE];
+    form_table::fill_table(version, s.width, n, defs, parts, a, attrs, &mut table);
+    judge_by(form, &table, text)
 }

@@ -68,10 +68,9 @@ pub record Taken (w : ℕ) (d : Declared) (txt : Bytes) (m : ℕ) (opened : Byte
   pub within : size ≤ length txt
   pub deep : depth′ ≤ 255
 
--- the arrays that are lent keep their lengths
-pub record Kept (opened value out opened′ value′ out′ : Bytes) : Type 0 where
+-- the stack and the buffer that are lent keep their lengths
+pub record Kept (out opened′ out′ : Bytes) : Type 0 where
   pub stack : length opened′ ≡ 256
-  pub values : length value′ ≡ length value
   pub long : length out′ ≡ length out
 
 -- a token is exact, and it was taken; or there are no rows

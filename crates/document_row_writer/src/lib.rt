@@ -104,7 +104,7 @@ fn put_token(
         × (w ≤ length (now value)) × (at < 4611686018429575168) ⌝ }
     ensures { λ r. ⌜ TokenPut w (declaredIn (now (form .entry))) (now (text .entry)) (place .count) (now (opened .entry)) (place .depth) (place .tag) (now (out .entry)) at
         (r .exact) (r .size) (r .place .count) (now (opened .exit)) (r .place .depth) (r .place .tag) (now (out .exit)) (r .at)
-        × Kept (now (opened .entry)) (now (value .entry)) (now (out .entry)) (now (opened .exit)) (now (value .exit)) (now (out .exit)) ⌝ }
+        × Kept (now (out .entry)) (now (opened .exit)) (now (out .exit)) × (length (now (value .exit)) ≡ length (now (value .entry))) ⌝ }
 {
     let depth = place.depth;
     let tag = place.tag;
@@ -130,7 +130,7 @@ fn put_token(
     }
 }
 
-/// Reads the documents of a text from a place on up to row `limit`, each value into `value`, and writes their rows.
+/// Reads the documents of a text from a place on up to row `limit`, and writes their rows.
 pub fn put_rows(
     w: usize,
     form: &[u8],
@@ -138,22 +138,21 @@ pub fn put_rows(
     place: Place,
     limit: usize,
     text: &[u8],
-    value: &mut [u8],
     out: &mut [u8],
     at: usize,
 ) -> Written
-    requires { ⌜ Width w × FormRoom (now form) × (length (now opened) ≡ 256) × (place .depth ≤ 255) × (place .count < limit) × (limit ≤ 8192)
-        × (w ≤ length (now value)) × (at < 4611686018427387904) ⌝ }
+    requires { ⌜ Width w × FormRoom (now form) × (length (now opened) ≡ 256) × (place .depth ≤ 255) × (place .count < limit) × (limit ≤ 8192) × (at < 4611686018427387904) ⌝ }
     ensures { λ r. ⌜ SomePut w (declaredIn (now (form .entry))) (now (text .entry)) (place .count) (now (opened .entry)) (place .depth) (place .tag) limit (now (out .entry)) at
         (r .exact) (r .size) (r .place .count) (now (opened .exit)) (r .place .depth) (r .place .tag) (now (out .exit)) (r .at)
-        × Kept (now (opened .entry)) (now (value .entry)) (now (out .entry)) (now (opened .exit)) (now (value .exit)) (now (out .exit)) ⌝ }
+        × Kept (now (out .entry)) (now (opened .exit)) (now (out .exit)) ⌝ }
 {
+    let mut value = [0; 256];
     let mut here = place;
     let mut next = at;
     let mut size = 0;
     while (size < text.len()) & (here.count < limit) {
         let t = codec::after(text, size);
-        let put = put_token(w, form, opened, here, t, value, out, next);
+        let put = put_token(w, form, opened, here, t, &mut value, out, next);
         if !put.exact {
             return inexact();
         }
@@ -175,12 +174,20 @@ pub fn put_documents(w: usize, form: &[u8], text: &[u8], out: &mut [u8], at: usi
     ensures { λ r. ⌜ Laid (each (rowBytes w) (rowsOr (documentsIn w (now (form .entry)) (now (text .entry))))) (now (out .entry)) at r (now (out .exit)) ⌝ }
 {
     let mut opened = [0; 256];
-    let mut value = [0; 256];
     let place = Place {
         depth: 0,
         tag: false,
         count: 0,
     };
-    let put = put_rows(w, form, &mut opened, place, 4097, text, &mut value, out, at);
+    let put = put_rows(
+        w,
+        form,
+        &mut opened,
+        place,
+        layout::MAX_ROWS + 1,
+        text,
+        out,
+        at,
+    );
     put.at
 }

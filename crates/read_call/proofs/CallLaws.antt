@@ -23,23 +23,18 @@ use Rattle.rules.proofs.Words.{and-split}
 use Rattle.rules.proofs.LayoutLaws.{length-flatBytes}
 use Rattle.codec.specs.Laid.{Laid}
 use Rattle.codec.proofs.Writers.{laid-then, laid-as}
-use Rattle.layout.specs.declared.Shape.{Shape}
-use Rattle.layout.specs.Bodies.{widthOf, WidthIn, Number, Product, shapeOf, ShapeOf}
+use Rattle.layout.specs.Bodies.{widthOf, WidthIn, Number, Product}
 use Rattle.layout.specs.Header.{headed}
 use Rattle.layout.proofs.HeaderLaws.{headed-short}
 use Rattle.lookup.specs.Bodies.{bodiesOf, rowsStartIn, RowsBegin}
-use Rattle.form_index.specs.Reading.{indexForm}
 use Rattle.row_check.proofs.WalkLaws.{verdict-walk}
 use Rattle.store_laws.specs.Forms.{reformed, Forms}
 use Rattle.store_laws.proofs.StoreLaws.{Holds}
 use Rattle.store_laws.proofs.FormBytesLaws.{whole, reformed-bytes}
 use Rattle.store_laws.proofs.FormLaws.{FormOf, read-form, forms-of, own-form, counted-definitions, counted-particles, counted-attributes}
-use Rattle.store_check.proofs.CallLaws.{Cut, CutOf}
-use Rattle.store_check.proofs.StoreFacts as facts
 use Rattle.form_front.specs.Front.{frontStands, FrontOf}
-use Rattle.document_tokens.specs.Telling.{FormRoom}
 use Rattle.document_row_writer.specs.Putting.{documentsIn, rowsOr, RowsRead}
-use Rattle.document_reading.specs.Judging.{rowsFit, Judges}
+use Rattle.document_reading.specs.Judging.{rowsFit}
 use Rattle.store_check.specs.Check.{byIndex}
 use Rattle.text_reading.specs.Stages.{withDocuments, rowsStand, ifRows, joinedBytes, documentsOutcome}
 use Rattle.read_call.specs.Reading.{Confirmed, rowsBehind, Stand, RowsThere, documentsStored}
@@ -51,32 +46,11 @@ confirm-bad bs txt {r} t e = record { is = sym (ap (λ (b : Bool). b && frontSta
 pub confirm-front : (bs txt : Bytes) {r : Bool} → not r ≡ false → r ≡ passes bs → {b : Bool} {n : ℕ} → FrontOf bs txt b n → Confirmed bs txt b n
 confirm-front bs txt {r} t e f = record { is = f .is ∙ sym (ap (λ (b : Bool). b && frontStands bs txt) (sym e ∙ not-false r t)); size = f .size }
 
--- ---- the documents, judged by the form that is cut out of the bytes
-pub stand-by : {bs : Bytes} {version w n : ℕ} {defs : Bytes} {p : ℕ} {parts : Bytes} {a : ℕ} {attrs : Bytes} → CutOf bs version w n defs p parts a attrs
-    → (rest : Bytes) {b : Bool} {m : ℕ} → Judges w (indexForm version w n defs parts attrs a) (documentsIn w bs rest) b m → Stand bs rest b m
-stand-by {bs} k rest {b} {m} j =
-    let x = subst (λ (c : Cut). Judges (c .w) (indexForm (c .version) (c .w) (c .n) (c .defs) (c .parts) (c .attrs) (c .a)) (documentsIn (c .w) bs rest) b m) (sym (k .same)) j in
-    record { is = x .is; counts = x .counts }
-
+-- ---- the documents
 -- they fit just where they are there and stand
 fit-stand : (bs : Bytes) (xs : List (Deep FlatRow)) → rowsFit (widthOf bs) (byIndex bs) (some xs) ≡ rowsStand bs xs
 unfolding rowsStand
 fit-stand bs xs = ap (λ (b : Bool). leb (length xs) 4096 && b) (sym (verdict-walk (widthOf bs) (byIndex bs) (length xs) (each (rowBytes (widthOf bs)) xs)))
-
--- the counts of a form that passes, in its shape
-pub shape-few : {bs : Bytes} {s : Shape} → ShapeOf bs s → passes bs ≡ true → (s .definitions ≤ 64) × (s .attributes ≤ 64)
-unfolding shapeOf
-shape-few {bs} x q =
-    subst (λ (z : Shape). (z .definitions ≤ 64) × (z .attributes ≤ 64)) (sym (x .is)) (facts.whole bs q .fewDefinitions, facts.whole bs q .fewAttributes)
-
--- what the reader of documents asks of a form
-pub form-room : (bs : Bytes) → passes bs ≡ true → FormRoom bs
-form-room bs q =
-    record {
-      definitions-few = facts.whole bs q .fewDefinitions;
-      attributes-few = facts.whole bs q .fewAttributes;
-      definitions-there = omega (arith, counted-definitions bs, ap length (whole (facts.whole bs q .holds)), length-flatBytes (widthOf bs) (bodiesOf bs));
-    }
 
 -- ---- the store of both; `head` and `start`: where the code finds that the form begins and ends
 module _ {bs : Bytes} (h : Holds bs) {head start d p a : ℕ}

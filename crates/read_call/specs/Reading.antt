@@ -14,7 +14,7 @@ use Rattle.layout.specs.Bodies.{widthOf}
 use Rattle.printing.specs.Texts.{textOf}
 use Rattle.form_front.specs.Front.{frontStands}
 use Rattle.document_row_writer.specs.Putting.{documentsIn, rowsOr}
-use Rattle.document_reading.specs.Judging.{rowsFit}
+use Rattle.document_reading.specs.Judging.{Judges}
 use Rattle.store_check.specs.Check.{byIndex}
 use Rattle.text_reading.specs.Stages.{joinedBytes}
 
@@ -28,9 +28,8 @@ abbrev pub rowsBehind : Bytes → Bytes → Option (List (Deep FlatRow))
 rowsBehind bs rest = documentsIn (widthOf bs) bs rest
 
 -- the documents stand, and are so many rows
-pub record Stand (bs rest : Bytes) (stands : Bool) (n : ℕ) : Type 0 where
-  pub is : stands ≡ rowsFit (widthOf bs) (byIndex bs) (rowsBehind bs rest)
-  pub counts : stands ≡ true → n ≡ length (rowsOr (rowsBehind bs rest))
+abbrev pub Stand : Bytes → Bytes → Bool → ℕ → Type 0
+Stand bs rest stands n = Judges (widthOf bs) (byIndex bs) (rowsBehind bs rest) stands n
 
 -- the rows are there, n of them
 pub record RowsThere (bs rest : Bytes) (n : ℕ) : Type 0 where

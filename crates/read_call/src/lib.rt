@@ -1,5 +1,4 @@
 //! Reading a printed text: the form that it declares, confirmed; then its documents, judged before a byte is written.
-use document_reading::Judged;
 use form_front::Front;
 use store_writer::Answer;
 ghost use mathlib.Core.Path.{_≡_};
@@ -12,7 +11,7 @@ ghost use Rattle.rules.specs.Outcome.{Answers};
 ghost use Rattle.codec.specs.Laid.{Laid};
 ghost use Rattle.reading_rules.specs.Reading.{ReadPromise};
 ghost use Rattle.text_reading.specs.Stages.{documentsOutcome};
-ghost use Rattle.read_call.specs.Reading.{Confirmed, Stand, RowsThere, documentsStored};
+ghost use Rattle.read_call.specs.Reading.{Confirmed, RowsThere, documentsStored};
 
 // Whether a form, which has no rows, passes and is the front of a text, and how long it is there.
 fn confirm(form: &[u8], text: &[u8]) -> Front
@@ -26,41 +25,6 @@ fn confirm(form: &[u8], text: &[u8]) -> Front
         };
     }
     form_front::front_of(form, text)
-}
-
-// Whether the documents of a text stand under a form, and how many rows they are.
-fn documents_stand(form: &[u8], text: &[u8]) -> Judged
-    requires { ⌜ passes (now form) ≡ true ⌝ }
-    ensures { λ r. ⌜ Stand (now (form .entry)) (now (text .entry)) (r .fits) (r .rows) ⌝ }
-{
-    let s = layout::shape_of(form);
-    let defs = layout::definition_body(form, s);
-    let parts = layout::particle_body(form, s);
-    let attrs = layout::attribute_body(form, s);
-    let version = s.version as usize;
-    let mut table: [u64; form_table::TABLE] = [0; form_table::TABLE];
-    form_table::fill_table(
-        version,
-        s.width,
-        s.definitions,
-        defs,
-        parts,
-        s.attributes,
-        attrs,
-        &mut table,
-    );
-    document_reading::judge_documents(
-        version,
-        s.width,
-        s.definitions,
-        defs,
-        parts,
-        s.attributes,
-        attrs,
-        form,
-        &table,
-        text,
-    )
 }
 
 // Writes the store of a form and of the documents of a text, which are so many rows.
@@ -84,7 +48,7 @@ fn read_documents(form: &[u8], text: &[u8], out: &mut [u8]) -> Answer
     requires { ⌜ passes (now form) ≡ true ⌝ }
     ensures { λ r. ⌜ Answers (documentsOutcome (now (form .entry)) (now (text .entry)) (length (now (out .entry)))) (now (out .entry)) (r .number) (r .length) (now (out .exit)) ⌝ }
 {
-    let judged = documents_stand(form, text);
+    let judged = document_reading::judge_documents(form, text);
     if !judged.fits {
         return store_writer::refused(19);
     }

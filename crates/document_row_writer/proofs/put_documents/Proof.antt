@@ -5,8 +5,8 @@ use borrow.Author.Needs.{needs}
 use Rattle.document_row_writer.proofs.put_documents.Statement.{statement}
 use Rattle.document_row_writer.proofs.put_documents.Tie as tie
 
-slice-aggregate-put-rows : tie.Need-slice-aggregate-put-rows
-slice-aggregate-put-rows c = search needs
+add-put-rows : tie.Need-add-put-rows
+add-put-rows c = search needs
 
 put-rows-requires : tie.Need-put-rows-requires
 put-rows-requires c κs = search needs
@@ -16,11 +16,10 @@ same-length c = search needs
 
 returns : tie.Need-returns
 returns c =
-    let at-put-rows = c .before .before .before in
-    let start = c .before .before .before .before .before .before .before .before .before .before in
+    let at-put-rows = c .before .before in
+    let start = at-put-rows .before .before .before .before .before .before in
     let a = start .args in
     documents-put (a .w) (a .form .now) (a .text .now) _ (start .pre .2) (at-put-rows .put-rows .ensures .0)
 
 pub put-documents-spec : {M : Type 1} → statement M
-put-documents-spec =
-    tie.close (tie.spec slice-aggregate-put-rows put-rows-requires same-length returns)
+put-documents-spec = tie.close (tie.spec add-put-rows put-rows-requires same-length returns)

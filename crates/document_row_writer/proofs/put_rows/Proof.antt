@@ -1,11 +1,11 @@
 -- `document_row_writer::put_rows` meets its contract: nothing is taken at first (`taken-none` of PutLaws), each token is
 -- taken after those before it (`putting-on`) or there are no rows (`putting-refused`), and the loop ends at the end of
 -- the text or at the limit (`putting-ended`).
-use Prim.Native.Nat.{_-_}
-use mathlib.Core.Path.{refl, ap, _∙_}
+use Prim.Native.Nat.{ℕ, _-_}
+use mathlib.Core.Path.{_≡_, refl, ap, _∙_}
 use native.Mathlib.Omega.{arith}
 use borrow.Author.Tests.{not-true, not-false}
-use lib.ListN.{length, length-drop}
+use lib.ListN.{length, length-drop, length-replicate}
 use Rattle.document_tokens.specs.Tokens.{declaredIn}
 use Rattle.document_row_writer.specs.Putting.{Kept}
 use Rattle.document_row_writer.proofs.PutLaws.{goes-on, Putting, taken-none, putting-room, putting-on, putting-refused, putting-ended}
@@ -15,27 +15,32 @@ use Rattle.document_row_writer.proofs.put_rows.Tie as tie
 
 -- the first `size` bytes are read and their rows written; the arrays keep their lengths
 abbrev Inv-loop : tie.InvT-loop
-Inv-loop w form opened₀ limit text value₀ out₀ at here₀ next₀ size₀ opened value out here next size =
+Inv-loop w form opened₀ limit text out₀ at value₀ here₀ next₀ size₀ opened out value here next size =
     Putting w (declaredIn form) text (here₀ .count) opened₀ (here₀ .depth) (here₀ .tag) limit out₀ at size (here .count) opened (here .depth) (here .tag) out next
-    × Kept opened₀ value₀ out₀ opened value out
+    × Kept out₀ opened out
+    × (length value ≡ 256)
 
 abbrev μ-loop : tie.MeasureT-loop
-μ-loop w form opened₀ limit text value₀ out₀ at here₀ next₀ size₀ opened value out here next size = length text - size
+μ-loop w form opened₀ limit text out₀ at value₀ here₀ next₀ size₀ opened out value here next size = length text - size
 
 loop-holds : tie.Need-loop-holds Inv-loop μ-loop
 loop-holds c =
-    let start = c .before .before .before .before in
+    let start = c .before .before .before in
     let p = start .pre in
-    (record { taken = taken-none (p .3); ceiling = omega arith }, record { stack = p .2; values = refl; long = refl })
+    (record { taken = taken-none (p .3); ceiling = omega arith }, record { stack = p .2; long = refl }, length-replicate {A = ℕ} 256 0)
 
 after-requires : tie.Need-after-requires Inv-loop μ-loop
 after-requires c κs = search needs
 
+slice-aggregate-put-token : tie.Need-slice-aggregate-put-token Inv-loop μ-loop
+slice-aggregate-put-token c = search needs
+
 put-token-requires : tie.Need-put-token-requires Inv-loop μ-loop
 put-token-requires c κs =
-    let at-if1 = c .before .before .before .before in
+    let at-after = c .before .before .before in
+    let at-if1 = at-after .before in
     let at-loop = at-if1 .before .before in
-    let start = at-loop .before .before .before .before .before in
+    let start = at-loop .before .before .before .before in
     let p = start .pre in
     let i = at-loop .loop .inv in
     let (unread, few) = goes-on (at-loop .loop .size) (length (start .args .text .now)) (at-loop .loop .here .count) (start .args .limit) (at-if1 .if1 .taken) in (
@@ -44,9 +49,9 @@ put-token-requires c κs =
       i .1 .stack,
       i .0 .taken .deep,
       omega (arith, p .5, few),
-      omega (arith, unread, ap length (c .before .before .before .after .ensures), length-drop (at-loop .loop .size) (start .args .text .now)),
-      omega (arith, p .6, i .1 .values),
-      omega (arith, p .7, putting-room (i .0) (p .5)),
+      omega (arith, unread, ap length (at-after .after .ensures), length-drop (at-loop .loop .size) (start .args .text .now)),
+      omega (arith, p .0, i .2),
+      omega (arith, p .6, putting-room (i .0) (p .5)),
     )
 
 inexact-requires : tie.Need-inexact-requires Inv-loop μ-loop
@@ -55,23 +60,11 @@ inexact-requires c κs = search needs
 same-length : tie.Need-same-length Inv-loop μ-loop
 same-length c =
     let at-if2 = c .before in
-    let at-put-token = at-if2 .before .before .before .before .before .before in
+    let at-put-token = at-if2 .before .before .before .before .before in
     let at-after = at-put-token .before .before .before .before in
     let at-if1 = at-after .before in
     let at-loop = at-if1 .before .before in
-    let start = at-loop .before .before .before .before .before in
-    let i = at-loop .loop .inv in
-    let put = at-put-token .put-token .ensures in
-    put .1 .values ∙ i .1 .values
-
-same-length-2 : tie.Need-same-length-2 Inv-loop μ-loop
-same-length-2 c =
-    let at-if2 = c .before in
-    let at-put-token = at-if2 .before .before .before .before .before .before in
-    let at-after = at-put-token .before .before .before .before in
-    let at-if1 = at-after .before in
-    let at-loop = at-if1 .before .before in
-    let start = at-loop .before .before .before .before .before in
+    let start = at-loop .before .before .before .before in
     let i = at-loop .loop .inv in
     let put = at-put-token .put-token .ensures in
     put .1 .long ∙ i .1 .long
@@ -79,25 +72,23 @@ same-length-2 c =
 returns : tie.Need-returns Inv-loop μ-loop
 returns c =
     let at-if2 = c .before in
-    let at-put-token = at-if2 .before .before .before .before .before .before in
+    let at-put-token = at-if2 .before .before .before .before .before in
     let at-after = at-put-token .before .before .before .before in
     let at-if1 = at-after .before in
     let at-loop = at-if1 .before .before in
-    let start = at-loop .before .before .before .before .before in
+    let start = at-loop .before .before .before .before in
     let i = at-loop .loop .inv in
-    let put = at-put-token .put-token .ensures in (
-      putting-refused (i .0) (at-after .after .ensures) (put .0) (not-true _ (at-if2 .if2 .taken)) (c .inexact .ensures),
-      record { stack = put .1 .stack; values = put .1 .values ∙ i .1 .values; long = put .1 .long ∙ i .1 .long },
-    )
+    let put = at-put-token .put-token .ensures in
+    (putting-refused (i .0) (at-after .after .ensures) (put .0) (not-true _ (at-if2 .if2 .taken)) (c .inexact .ensures), record { stack = put .1 .stack; long = put .1 .long ∙ i .1 .long })
 
 add-size : tie.Need-add-size Inv-loop μ-loop
 add-size c =
     let at-if2 = c .before .before in
-    let at-put-token = at-if2 .before .before .before .before .before .before in
+    let at-put-token = at-if2 .before .before .before .before .before in
     let at-after = at-put-token .before .before .before .before in
     let at-if1 = at-after .before in
     let at-loop = at-if1 .before .before in
-    let start = at-loop .before .before .before .before .before in
+    let start = at-loop .before .before .before .before in
     let i = at-loop .loop .inv in
     let put = at-put-token .put-token .ensures in
     let taken = put .0 .takes (not-false _ (at-if2 .if2 .left)) in
@@ -107,45 +98,38 @@ add-size c =
 loop-less : tie.Need-loop-less Inv-loop μ-loop
 loop-less c =
     let at-if2 = c .before .before in
-    let at-put-token = at-if2 .before .before .before .before .before .before in
+    let at-put-token = at-if2 .before .before .before .before .before in
     let at-after = at-put-token .before .before .before .before in
     let at-if1 = at-after .before in
     let at-loop = at-if1 .before .before in
-    let start = at-loop .before .before .before .before .before in
+    let start = at-loop .before .before .before .before in
     let i = at-loop .loop .inv in
     let put = at-put-token .put-token .ensures in
-    let exact = not-false _ (at-if2 .if2 .left) in
+    let exact = not-false (at-put-token .put-token .result .exact) (at-if2 .if2 .left) in
     omega (arith, put .0 .onward exact, put .0 .takes exact .within, ap length (at-after .after .ensures), length-drop (at-loop .loop .size) (start .args .text .now))
 
 loop-again : tie.Need-loop-again Inv-loop μ-loop
 loop-again c =
     let at-if2 = c .before .before in
-    let at-put-token = at-if2 .before .before .before .before .before .before in
+    let at-put-token = at-if2 .before .before .before .before .before in
     let at-after = at-put-token .before .before .before .before in
     let at-if1 = at-after .before in
     let at-loop = at-if1 .before .before in
-    let start = at-loop .before .before .before .before .before in
+    let start = at-loop .before .before .before .before in
     let i = at-loop .loop .inv in
     let put = at-put-token .put-token .ensures in
-    let (unread, few) = goes-on (at-loop .loop .size) (length (start .args .text .now)) (at-loop .loop .here .count) (start .args .limit) (at-if1 .if1 .taken) in (
-      putting-on (i .0) (at-after .after .ensures) (put .0) (not-false _ (at-if2 .if2 .left)) (few),
-      record { stack = put .1 .stack; values = put .1 .values ∙ i .1 .values; long = put .1 .long ∙ i .1 .long },
-    )
+    let (unread, few) = goes-on (at-loop .loop .size) (length (start .args .text .now)) (at-loop .loop .here .count) (start .args .limit) (at-if1 .if1 .taken) in
+    (putting-on (i .0) (at-after .after .ensures) (put .0) (not-false _ (at-if2 .if2 .left)) few, record { stack = put .1 .stack; long = put .1 .long ∙ i .1 .long }, put .2 ∙ i .2)
 
-same-length-3 : tie.Need-same-length-3 Inv-loop μ-loop
-same-length-3 c =
-    let at-loop = c .before .before in
-    at-loop .loop .inv .1 .values
-
-same-length-4 : tie.Need-same-length-4 Inv-loop μ-loop
-same-length-4 c =
+same-length-2 : tie.Need-same-length-2 Inv-loop μ-loop
+same-length-2 c =
     let at-loop = c .before .before in
     at-loop .loop .inv .1 .long
 
 returns-2 : tie.Need-returns-2 Inv-loop μ-loop
 returns-2 c =
     let at-loop = c .before .before in
-    let start = at-loop .before .before .before .before .before in
+    let start = at-loop .before .before .before .before in
     (putting-ended (at-loop .loop .inv .0) (start .pre .4) (c .if1 .left), at-loop .loop .inv .1)
 
 pub put-rows-spec : {M : Type 1} → statement M
@@ -156,14 +140,13 @@ put-rows-spec =
     μ-loop
     loop-holds
     after-requires
+    slice-aggregate-put-token
     put-token-requires
     inexact-requires
     same-length
-    same-length-2
     returns
     add-size
     loop-less
     loop-again
-    same-length-3
-    same-length-4
+    same-length-2
     returns-2)

@@ -33,7 +33,8 @@ returns c =
     let told = at-token-at .token-at .ensures in (
       token-refused (a .w) (declaredIn (a .form .now)) (a .text .now) (a .place .count) (a .opened .now) (a .place .depth) (a .place .tag) (p .5) told
           (not-true _ (at-if1 .if1 .taken)) (c .inexact .ensures),
-      record { stack = p .2; values = told .long; long = refl },
+      record { stack = p .2; long = refl },
+      told .long,
     )
 
 first-requires : tie.Need-first-requires
@@ -110,7 +111,8 @@ returns-2 c =
     let adv = at-advance .advance .ensures in (
       token-put (a .w) (declaredIn (a .form .now)) (a .text .now) (a .place .count) (a .opened .now) (a .place .depth) (a .place .tag) (p .5) is-exact told
           (at-first .first .ensures) (at-put-made .put-made .ensures) adv refl (omega (arith, c .made .ensures)) refl,
-      record { stack = adv .long; values = at-token-at .token-at .ensures .long; long = laid-long (at-put-made .put-made .ensures .laid) },
+      record { stack = adv .long; long = laid-long (at-put-made .put-made .ensures .laid) },
+      at-token-at .token-at .ensures .long,
     )
 
 pub put-token-spec : {M : Type 1} → statement M

@@ -7,9 +7,10 @@ use Rattle.layout.proofs.LayoutLaws.{width-within}
 use Rattle.store_laws.proofs.StoreLaws.{holds}
 use Rattle.store_laws.proofs.FormLaws.{start-within}
 use Rattle.plan_writer.proofs.EditedLaws.{heads-of}
+use Rattle.document_reading.proofs.FormLaws.{form-room}
 use Rattle.read_call.proofs.put_store.Statement.{statement}
 use Rattle.read_call.proofs.put_store.Tie as tie
-use Rattle.read_call.proofs.CallLaws.{form-room, forms, stored-documents, laid-short, rows-at}
+use Rattle.read_call.proofs.CallLaws.{forms, stored-documents, laid-short, rows-at}
 
 width-in-requires : tie.Need-width-in-requires
 width-in-requires c κs = search needs

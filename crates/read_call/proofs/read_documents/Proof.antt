@@ -7,8 +7,8 @@ use Rattle.read_call.proofs.read_documents.Statement.{statement}
 use Rattle.read_call.proofs.read_documents.Tie as tie
 use Rattle.read_call.proofs.CallLaws.{rows-standing, answer-bad, answer-short, answer-all}
 
-documents-stand-requires : tie.Need-documents-stand-requires
-documents-stand-requires c κs =
+judge-documents-requires : tie.Need-judge-documents-requires
+judge-documents-requires c κs =
     let start = c .before .before .before in
     start .pre
 
@@ -18,10 +18,10 @@ refused-requires c κs = search needs
 returns : tie.Need-returns
 returns c =
     let at-if1 = c .before in
-    let at-documents-stand = at-if1 .before .before in
-    let start = at-documents-stand .before .before .before .before in
+    let at-judge-documents = at-if1 .before .before in
+    let start = at-judge-documents .before .before .before .before in
     answers-as (c .refused .ensures .0) (c .refused .ensures .1)
-    (answer-bad (start .args .form .now) (start .args .text .now) (start .args .out .now) (at-documents-stand .documents-stand .ensures) (at-if1 .if1 .taken))
+    (answer-bad (start .args .form .now) (start .args .text .now) (start .args .out .now) (at-judge-documents .judge-documents .ensures) (at-if1 .if1 .taken))
 
 width-in-requires : tie.Need-width-in-requires
 width-in-requires c κs = search needs
@@ -35,9 +35,9 @@ row-size-requires c κs = c .before .width-in .ensures .small
 times-requires : tie.Need-times-requires
 times-requires c κs =
     let at-width-in = c .before .before in
-    let at-documents-stand = at-width-in .before .before .before in
-    let start = at-documents-stand .before .before .before .before in
-    let there = rows-standing (start .args .form .now) (start .args .text .now) (at-documents-stand .documents-stand .ensures) (at-width-in .before .if1 .left) in
+    let at-judge-documents = at-width-in .before .before .before in
+    let start = at-judge-documents .before .before .before .before in
+    let there = rows-standing (start .args .form .now) (start .args .text .now) (at-judge-documents .judge-documents .ensures) (at-width-in .before .if1 .left) in
     (omega (arith, c .row-size .ensures, at-width-in .width-in .ensures .small), omega (arith, there .few))
 
 add-length : tie.Need-add-length
@@ -54,19 +54,19 @@ returns-2 c =
     let at-row-start = at-row-size .before in
     let at-width-in = at-row-start .before in
     let at-if1 = at-width-in .before in
-    let at-documents-stand = at-if1 .before .before in
-    let start = at-documents-stand .before .before .before .before in
+    let at-judge-documents = at-if1 .before .before in
+    let start = at-judge-documents .before .before .before .before in
     answers-as (c .refused2 .ensures .0) (c .refused2 .ensures .1)
-    (answer-short (start .args .form .now) (start .args .text .now) (start .args .out .now) (at-documents-stand .documents-stand .ensures) (at-if1 .if1 .left)
+    (answer-short (start .args .form .now) (start .args .text .now) (start .args .out .now) (at-judge-documents .judge-documents .ensures) (at-if1 .if1 .left)
     (at-row-start .row-start .ensures) (at-width-in .width-in .ensures) (at-row-size .row-size .ensures) (at-times .times .ensures) (omega (arith, at-if2 .if2 .taken)))
 
 put-store-requires : tie.Need-put-store-requires
 put-store-requires c κs =
     let at-times = c .before .before in
     let at-if1 = at-times .before .before .before .before in
-    let at-documents-stand = at-if1 .before .before in
-    let start = at-documents-stand .before .before .before .before in
-    (start .pre, rows-standing (start .args .form .now) (start .args .text .now) (at-documents-stand .documents-stand .ensures) (at-if1 .if1 .left))
+    let at-judge-documents = at-if1 .before .before in
+    let start = at-judge-documents .before .before .before .before in
+    (start .pre, rows-standing (start .args .form .now) (start .args .text .now) (at-judge-documents .judge-documents .ensures) (at-if1 .if1 .left))
 
 same-length : tie.Need-same-length
 same-length c = search needs
@@ -80,9 +80,9 @@ returns-3 c =
     let at-row-start = at-row-size .before in
     let at-width-in = at-row-start .before in
     let at-if1 = at-width-in .before in
-    let at-documents-stand = at-if1 .before .before in
-    let start = at-documents-stand .before .before .before .before in
-    answer-all (start .args .form .now) (start .args .text .now) (start .args .out .now) (at-documents-stand .documents-stand .ensures) (at-if1 .if1 .left)
+    let at-judge-documents = at-if1 .before .before in
+    let start = at-judge-documents .before .before .before .before in
+    answer-all (start .args .form .now) (start .args .text .now) (start .args .out .now) (at-judge-documents .judge-documents .ensures) (at-if1 .if1 .left)
     (at-row-start .row-start .ensures) (at-width-in .width-in .ensures) (at-row-size .row-size .ensures) (at-times .times .ensures) (omega (arith, at-if2 .if2 .left))
     (at-put-store .put-store .ensures)
 
@@ -90,7 +90,7 @@ pub read-documents-spec : {M : Type 1} → statement M
 read-documents-spec =
     tie.close
     (tie.spec
-    documents-stand-requires
+    judge-documents-requires
     refused-requires
     returns
     width-in-requires

@@ -7,11 +7,11 @@ use mathlib.Core.List.{List, [], _∷_, _++_, map}
 use lib.ListN.{length, length-append, take, drop}
 use lib.Seq.{take-all}
 use Rattle.rules.specs.declared.GroupKind.the-variants.{Sequence}
-use Rattle.rules.specs.Bytes.{Bytes, ascii, same, all}
+use Rattle.rules.specs.Bytes.{Bytes, ascii, all}
 use Rattle.rules.specs.Model.{Members, done, el, group, names, Some, Full}
 use Rattle.rules.specs.Store.{Content, empty, pcdata, complex, AttributeSort, implied, required, fixed, Attribute, Definition, Form, bare, tree, modelOf}
 use Rattle.rules.specs.Preorder.{Deep, preorder}
-use Rattle.rules.specs.Layout.{FlatParticle, quantifierCode, groupCode, howMany, kindCode, sortCode, indexOf, particles, contentParticles, flatDefinition}
+use Rattle.rules.specs.Layout.{FlatParticle, quantifierCode, groupCode, howMany, kindCode, sortCode, particles, contentParticles, flatDefinition}
 use Rattle.rules.specs.WellFormed.{isName, isAttributeOf, definitionName}
 use Rattle.rules.specs.Print.{escape, memberTokens, contentTokens, defaultTokens}
 use Rattle.rules.proofs.Words.{and-split}
@@ -22,17 +22,13 @@ use Rattle.reading_rules.specs.Canonical.{canonicalMembers, canonicalContent, c
 use Rattle.reading_rules.proofs.Pieces.{putTokens, tokens-append}
 use Rattle.reading_rules.proofs.Models.{trailing-name, membersInAll, startsWith-name}
 use Rattle.reading_rules.proofs.Declarations.{name-stops}
-use Rattle.declaration_scan.specs.Declared.{placeAmong, nameHere, declaredName, afterDeclared, declaredKind, modelOfContent}
+use Rattle.declaration_scan.specs.Declared.{nameHere, declaredName, afterDeclared, declaredKind, modelOfContent}
 use Rattle.declaration_scan.specs.Declared.{definitionOfLine, declaredSort, declaredValue, afterType, attributeOfLine, modelFrom}
+use Rattle.declaration_scan.proofs.Laws.{place-index}
 use Rattle.declaration_laws.proofs.ModelText.{placed, name-here, model-text}
 use Rattle.declaration_laws.proofs.LineText.{Declarable, attribute-good, definitionText, attributeText}
 
 -- ---- names and their places
-place-index : (n : Bytes) (form : Form) → placeAmong n (map definitionName form) ≡ indexOf n form
-unfolding placeAmong
-place-index n [] = refl
-place-index n (d ∷ ds) = ap (λ (z : ℕ). elim (same n (d .name)) as (λ b. ℕ) [ true ↦ 0 | false ↦ suc z ]) (place-index n ds)
-
 placed-particles : (form : Form) (ms : Members Bytes) → placed (map definitionName form) ms ≡ particles form ms
 placed-particles form done = refl
 placed-particles form (el q n rest) =

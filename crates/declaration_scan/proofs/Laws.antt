@@ -1,14 +1,17 @@
 -- Marks, names and kinds as the code reads them.
 use Prim.Native.Nat.{ℕ, suc, _+_, _-_, _*_, _<_, _≤_}
-use mathlib.Core.Path.{_≡_, sym, ap, _∙_}
+use mathlib.Core.Path.{_≡_, refl, sym, ap, _∙_}
 use mathlib.Core.Bool.{Bool, true, false}
+use mathlib.Core.List.{[], _∷_, map}
 use borrow.Author.Tests.{eq-eqb, ne-eqb}
 use native.Mathlib.Omega.{arith}
 use native.Mathlib.Nat.{add-zero, zero-add}
 use lib.Dec.{eqb}
 use lib.ListN.{length, take, drop, length-take, length-drop}
 use Rattle.rules.specs.Bytes.{Bytes, same, ascii}
-use Rattle.rules.specs.WellFormed.{inName}
+use Rattle.rules.specs.Store.{Form}
+use Rattle.rules.specs.Layout.{indexOf}
+use Rattle.rules.specs.WellFormed.{inName, definitionName}
 use Rattle.rules.specs.Decode.{readDefinition}
 use Rattle.codec.proofs.Writers.{tail-seen}
 use Rattle.text_scan.proofs.ScanLaws.{leading-take, trailing-drop}
@@ -115,3 +118,9 @@ module _ (c : Bytes) (x : ℕ) (e : x ≡ firstByte c) where
 
     pub kind-complex : b ≡ false → 2 ≡ declaredKind c
     kind-complex h = (λ i. kindBy (sym (ne-eqb x 69 n) i) ((sym h ∙ f) i)) ∙ kind-is
+
+-- ---- the place of a name among a form's is its index
+pub place-index : (n : Bytes) (form : Form) → placeAmong n (map definitionName form) ≡ indexOf n form
+unfolding placeAmong
+place-index n [] = refl
+place-index n (d ∷ ds) = ap (λ (i : ℕ). elim (same n (d .name)) [ true ↦ 0 | false ↦ suc i ]) (place-index n ds)

@@ -35,7 +35,8 @@ use Rattle.document_laws.proofs.RowsTextLaws.{Follows, text-end, text-s
 use Rattle.document_laws.proofs.ForestText.{shallow-root}
 use Rattle.document_laws.proofs.TokenText.{place-name, attribute-name}
 use Rattle.document_laws.proofs.Steps.{with-none, with-append, element-read, attribute-read, text-read, start-read, end-split, end-read, none-read}
-use Rattle.document_laws.proofs.Places.{place-index, kind-index, InTable, attribute-among}
+use Rattle.declaration_scan.proofs.Laws.{place-index}
+use Rattle.document_laws.proofs.Places.{kind-index, InTable, attribute-among}
 use Rattle.document_laws.proofs.Kids.{Kids, attribute-kid, text-kid, start-ended, no-kid, element-kid, element-rows}
 
 -- ---- serials in document order

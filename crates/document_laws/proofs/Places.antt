@@ -13,16 +13,10 @@ use borrow.Author.Tests.{eq-eqb, ne-eqb}
 use Rattle.rules.specs.Bytes.{Bytes, same, bytes}
 use Rattle.rules.specs.Store.{Attribute, Definition, Form}
 use Rattle.rules.specs.Layout.{FlatAttribute, indexOf, indexIn, attributeIndex, kindCode, flatDefinition, ownAttributes, allAttributes}
-use Rattle.rules.specs.WellFormed.{definitionName, attributeName, lookup}
-use Rattle.declaration_scan.specs.Declared.{placeAmong}
+use Rattle.rules.specs.WellFormed.{attributeName, lookup}
 use Rattle.document_tokens.specs.Tokens.{kindOfDefinition, attributeAmong}
 
 -- ---- definitions
-pub place-index : (n : Bytes) (form : Form) → placeAmong n (map definitionName form) ≡ indexOf n form
-unfolding placeAmong
-place-index n [] = refl
-place-index n (d ∷ ds) = ap (λ (i : ℕ). elim (same n (d .name)) [ true ↦ 0 | false ↦ suc i ]) (place-index n ds)
-
 pub kind-index : (n : Bytes) (form fs : Form) (d : Definition) → lookup n fs ≡ some d → kindOfDefinition (indexOf n fs) (map (flatDefinition form) fs) ≡ kindCode (d .content)
 unfolding kindOfDefinition
 kind-index n form [] d e = absurd (Option·none-ne-some d e)

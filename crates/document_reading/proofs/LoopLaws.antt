@@ -23,8 +23,9 @@ use Rattle.row_check.specs.Stepping.{StepsMade}
 use Rattle.document_tokens.specs.Tokens.{Declared, declaredIn, withRows}
 use Rattle.document_tokens.specs.Telling.{stackOf}
 use Rattle.document_tokens.proofs.ChoiceLaws.{stack-size}
-use Rattle.document_row_writer.specs.Putting.{documentsIn, rowsOr, rowsHere, Taken, SomePut}
+use Rattle.document_row_writer.specs.Putting.{documentsIn, rowsOr, rowsHere, Starts, Taken, SomePut}
 use Rattle.document_row_writer.proofs.RowLaws.{rows-ended}
+use Rattle.document_row_writer.proofs.PutLaws.{rows-start}
 use Rattle.document_reading.specs.Judging.{fitFrom, rowsFit, Judges}
 use Rattle.document_reading.proofs.FitLaws.{fit-refused, fit-taken, fit-many, more-rows, fit-ended, rows-front, rows-size}
 
@@ -58,17 +59,20 @@ fit-start : (w : ℕ) (f : IndexForm) (o : Option (List (Deep FlatRow))) → row
 fit-start w f none = refl
 fit-start w f (some xs) = rw zero-add
 
-pub judging-start : (w : ℕ) (f : IndexForm) (form txt opened : Bytes) → length opened ≡ 256 → Judging w f (declaredIn form) (documentsIn w form txt) (replicate 771 0) 1 opened 0 false 0 txt
-unfolding stackOf
-judging-start w f form txt opened h =
+pub judging-start : (w : ℕ) (f : IndexForm) (form txt opened : Bytes) {depth : ℕ} {tag : Bool} {m : ℕ} → length opened ≡ 256 → Starts depth tag m
+    → Judging w f (declaredIn form) (documentsIn w form txt) (replicate 771 0) 1 opened depth tag m txt
+judging-start w f form txt opened {depth} {tag} {m} h s =
+    let all = rows-start w form txt opened s in
+    let first : fitFrom w f 0 startState (documentsIn w form txt) ≡ fitFrom w f m (stateOf (replicate 771 0) 1) (rowsHere w (declaredIn form) m opened depth tag txt) =
+    λ i. fitFrom w f (sym (s .count-is) i) (sym first-state i) (sym all i) in
     record {
-      is = fit-start w f (documentsIn w form txt) ∙ ap (λ (x : State). fitFrom w f 0 x (documentsIn w form txt)) (sym first-state);
-      counts = λ e. sym (zero-add (length (rowsOr (documentsIn w form txt))));
-      few = omega arith;
+      is = fit-start w f (documentsIn w form txt) ∙ first;
+      counts = λ e. omega (arith, s .count-is, ap (λ (o : Option (List (Deep FlatRow))). length (rowsOr o)) all);
+      few = omega (arith, s .count-is);
       long = refl;
       low = omega arith;
       stack = h;
-      deep = omega arith;
+      deep = omega (arith, s .depth-is);
     }
 
 module _ {w : ℕ} {f : IndexForm} {d : Declared} {rows : Option (List (Deep FlatRow))} {s : List ℕ} {live : ℕ} {opened : Bytes} {depth : ℕ} {tag : Bool} {m : ℕ} {t : Bytes}

@@ -15,7 +15,8 @@ use Rattle.layout.specs.Bodies.{widthOf, definitionsIn, particlesIn, attributes
 use Rattle.form_index.specs.Indices.{IndexForm}
 use Rattle.form_table.specs.Table.{Tabled}
 use Rattle.row_step.specs.Steps.{State, startState, walk, stateEnds}
-use Rattle.document_row_writer.specs.Putting.{rowsOr}
+use Rattle.store_check.specs.Check.{byIndex}
+use Rattle.document_row_writer.specs.Putting.{documentsIn, rowsOr}
 
 -- the table of the form that these bytes say
 pub record TableOf (bs : Bytes) (table : List ℕ) : Type 0 where
@@ -36,3 +37,11 @@ rowsFit w f (some xs) = leb (length xs) 4096 && stateEnds f (walk w f (length xs
 pub record Judges (w : ℕ) (f : IndexForm) (rows : Option (List (Deep FlatRow))) (fits : Bool) (count : ℕ) : Type 0 where
   pub is : fits ≡ rowsFit w f rows
   pub counts : fits ≡ true → count ≡ length (rowsOr rows)
+
+-- the rows of the documents `rest` by the form of the store `bs`
+abbrev pub rowsBehind : Bytes → Bytes → Option (List (Deep FlatRow))
+rowsBehind bs rest = documentsIn (widthOf bs) bs rest
+
+-- the documents stand, and are so many rows
+abbrev pub Stand : Bytes → Bytes → Bool → ℕ → Type 0
+Stand bs rest stands n = Judges (widthOf bs) (byIndex bs) (rowsBehind bs rest) stands n

@@ -1,5 +1,4 @@
 //! The rows that the documents of a text say, judged: some rows at a time, written into an array.
-use document_row_writer::Place;
 ghost use mathlib.Core.Path.{_≡_};
 ghost use mathlib.Core.Bool.{true};
 ghost use Prim.Native.Nat.{_*_, _≤_};
@@ -10,8 +9,7 @@ ghost use Rattle.layout.specs.Bodies.{widthOf};
 ghost use Rattle.row_step.specs.Steps.{end, stateOf};
 ghost use Rattle.row_check.specs.Stepping.{StepsMade};
 ghost use Rattle.store_check.specs.Check.{byIndex};
-ghost use Rattle.document_row_writer.specs.Putting.{documentsIn};
-ghost use Rattle.document_reading.specs.Judging.{TableOf, Judges};
+ghost use Rattle.document_reading.specs.Judging.{TableOf, Stand};
 
 // So many rows are judged at a time; and their bytes, where a row has at most 267.
 const BATCH: usize = 16;
@@ -97,24 +95,27 @@ fn verdict(fits: bool, rows: usize) -> Judged
 // Judges the documents of a text by a form and its table.
 fn judge_by(form: &[u8], table: &[u64], text: &[u8]) -> Judged
     requires { ⌜ (passes (now form) ≡ true) × TableOf (now form) (now table) ⌝ }
-    ensures { λ r. ⌜ Judges (widthOf (now (form .entry))) (byIndex (now (form .entry))) (documentsIn (widthOf (now (form .entry))) (now (form .entry)) (now (text .entry)))
-        (r .fits) (r .rows) ⌝ }
+    ensures { λ r. ⌜ Stand (now (form .entry)) (now (text .entry)) (r .fits) (r .rows) ⌝ }
 {
     let w = layout::width_in(form);
     let mut levels = [0; 771];
     let mut live = 1;
     let mut opened = [0; 256];
     let mut rows = [0; BATCH_BYTES];
-    let mut place = Place {
-        depth: 0,
-        tag: false,
-        count: 0,
-    };
+    let mut place = document_row_writer::start();
     let mut t = text;
     while 0 < t.len() {
         let before = place.count;
-        let most = before + BATCH;
-        let put = document_row_writer::put_rows(w, form, &mut opened, place, most, t, &mut rows, 0);
+        let put = document_row_writer::put_rows(
+            w,
+            form,
+            &mut opened,
+            place,
+            before + BATCH,
+            t,
+            &mut rows,
+            0,
+        );
         place = put.place;
         if !put.exact | (layout::MAX_ROWS < place.count) {
             return verdict(false, 0);
@@ -141,8 +142,7 @@ fn judge_by(form: &[u8], table: &[u64], text: &[u8]) -> Judged
 /// Judges the documents of a text by a form that passes.
 pub fn judge_documents(form: &[u8], text: &[u8]) -> Judged
     requires { ⌜ passes (now form) ≡ true ⌝ }
-    ensures { λ r. ⌜ Judges (widthOf (now (form .entry))) (byIndex (now (form .entry))) (documentsIn (widthOf (now (form .entry))) (now (form .entry)) (now (text .entry)))
-        (r .fits) (r .rows) ⌝ }
+    ensures { λ r. ⌜ Stand (now (form .entry)) (now (text .entry)) (r .fits) (r .rows) ⌝ }
 {
     let s = layout::shape_of(form);
     let defs = layout::definition_body(form, s);

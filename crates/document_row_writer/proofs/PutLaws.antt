@@ -1,5 +1,5 @@
 -- The rows of documents, written: what some tokens give, and what the tokens after them give, is what all of them give.
-use mathlib.Core.Path.{_≡_, refl, sym, ap, _∙_}
+use mathlib.Core.Path.{_≡_, refl, sym, ap, subst, _∙_}
 use mathlib.Core.Bool.{Bool, true, false, _&&_, _||_, false≢true}
 use mathlib.Core.Option.{Option, none, some}
 use mathlib.Core.List.{List, [], _∷_, _++_, append-nil, append-assoc}
@@ -18,13 +18,13 @@ use Rattle.rules.specs.WellFormed.{isThere}
 use Rattle.rules.proofs.Words.{and-split}
 use Rattle.rules.proofs.LayoutLaws.{each-append}
 use Rattle.codec.specs.Laid.{Laid}
-use Rattle.codec.proofs.Writers.{laid-none, laid-then, laid-as}
+use Rattle.codec.proofs.Writers.{laid-none, laid-then, laid-as, laid-long}
 use Rattle.layout.specs.Bodies.{Width}
 use Rattle.layout.specs.RowBytes.{rowOf, RowLaid}
 use Rattle.document_tokens.specs.Tokens.{Declared, declaredIn, Token, tokenAt, withRows}
 use Rattle.document_tokens.specs.Telling.{stackOf, Tells, TokenTold}
 use Rattle.document_tokens.proofs.TokenLaws.{token-fits}
-use Rattle.document_row_writer.specs.Putting.{documentsIn, rowsOr, RowsRead, rowsHere, madeRow, madeCount, Advanced, RowsPut, Taken, TokenPut, SomePut}
+use Rattle.document_row_writer.specs.Putting.{documentsIn, rowsOr, RowsRead, rowsHere, madeRow, madeCount, Advanced, RowsPut, Starts, Taken, TokenPut, SomePut}
 use Rattle.document_row_writer.proofs.RowLaws.{rows-refused, rows-ended}
 use Rattle.document_row_writer.proofs.AfterLaws.{made-many, made-few, rows-made, made-counted, rows-left}
 
@@ -194,13 +194,13 @@ rows-all xs [] e = append-nil xs
 rows-all xs (x ∷ l) e = absurd (false≢true e)
 
 -- no row is written yet, and nothing is opened
-pub rows-start : (w : ℕ) (form txt opened : Bytes) → rowsHere w (declaredIn form) 0 opened 0 false txt ≡ documentsIn w form txt
+pub rows-start : (w : ℕ) (form txt opened : Bytes) {depth : ℕ} {tag : Bool} {m : ℕ} → Starts depth tag m → rowsHere w (declaredIn form) m opened depth tag txt ≡ documentsIn w form txt
 unfolding stackOf
-rows-start w form txt opened = refl
+rows-start w form txt opened s = λ i. rowsHere w (declaredIn form) (s .count-is i) opened (s .depth-is i) (s .tag-is i) txt
 
 -- rows written up to a limit that is past the last are all rows
-module _ (w : ℕ) (form txt opened : Bytes) (read : RowsRead w form txt) {out : Bytes} {at : ℕ} {exact : Bool} {size m′ : ℕ} {opened′ : Bytes} {depth′ : ℕ} {tag′ : Bool} {out′ : Bytes} {at′ : ℕ}
-    (p : SomePut w (declaredIn form) txt 0 opened 0 false 4097 out at exact size m′ opened′ depth′ tag′ out′ at′) where
+module _ (w : ℕ) (form txt opened : Bytes) (read : RowsRead w form txt) {depth : ℕ} {tag : Bool} {m : ℕ} (s : Starts depth tag m) {out : Bytes} {at : ℕ} {exact : Bool} {size m′ : ℕ} {opened′ : Bytes} {depth′ : ℕ} {tag′ : Bool} {out′ : Bytes} {at′ : ℕ}
+    (p : SomePut w (declaredIn form) txt m opened depth tag 4097 out at exact size m′ opened′ depth′ tag′ out′ at′) where
   abbrev rows : Option (List (Deep FlatRow))
   rows = documentsIn w form txt
 
@@ -209,16 +209,16 @@ module _ (w : ℕ) (form txt opened : Bytes) (read : RowsRead w form txt) {out :
     where
       by : (b : Bool) → exact ≡ b → exact ≡ true
       by true e = e
-      by false e = absurd (false≢true (sym (ap isThere (sym (rows-start w form txt opened) ∙ p .refuses e)) ∙ read .there))
+      by false e = absurd (false≢true (sym (ap isThere (sym (rows-start w form txt opened s) ∙ p .refuses e)) ∙ read .there))
 
-  taken : Taken w (declaredIn form) txt 0 opened 0 false out at size m′ opened′ depth′ tag′ out′ at′
+  taken : Taken w (declaredIn form) txt m opened depth tag out at size m′ opened′ depth′ tag′ out′ at′
   taken = p .takes all-exact
 
   abbrev left : Option (List (Deep FlatRow))
   left = rowsHere w (declaredIn form) m′ opened′ depth′ tag′ (drop size txt)
 
   are : rows ≡ withRows (taken .made) left
-  are = sym (rows-start w form txt opened) ∙ taken .rows
+  are = sym (rows-start w form txt opened s) ∙ taken .rows
 
   there : isThere (withRows (taken .made) left) ≡ true
   there = sym (ap isThere are) ∙ read .there
@@ -228,7 +228,7 @@ module _ (w : ℕ) (form txt opened : Bytes) (read : RowsRead w form txt) {out :
   many (some ys) e = omega (arith, length-append (taken .made) ys)
 
   few : m′ < 4097
-  few = omega (arith, taken .counted, many left (rows-there (taken .made) left there), ap (λ (o : Option (List (Deep FlatRow))). length (rowsOr o)) are, read .few)
+  few = omega (arith, s .count-is, taken .counted, many left (rows-there (taken .made) left there), ap (λ (o : Option (List (Deep FlatRow))). length (rowsOr o)) are, read .few)
 
   over : left ≡ elim (isNone (stackOf depth′ opened′)) [ true ↦ some [] | false ↦ none ]
   over = rows-ended (declaredIn form) w (m′ + 1) (stackOf depth′ opened′) tag′ (drop size txt) (omega (arith, p .ends all-exact few, length-drop size txt))

@@ -68,6 +68,12 @@ pub record Taken (w : ℕ) (d : Declared) (txt : Bytes) (m : ℕ) (opened : Byte
   pub within : size ≤ length txt
   pub deep : depth′ ≤ 255
 
+-- documents begin here: nothing is opened, and no row came before
+pub record Starts (depth : ℕ) (tag : Bool) (m : ℕ) : Type 0 where
+  pub depth-is : depth ≡ 0
+  pub tag-is : tag ≡ false
+  pub count-is : m ≡ 0
+
 -- the stack and the buffer that are lent keep their lengths
 pub record Kept (out opened′ out′ : Bytes) : Type 0 where
   pub stack : length opened′ ≡ 256

@@ -8,7 +8,7 @@ ghost use Rattle.codec.specs.Laid.{Laid};
 ghost use Rattle.layout.specs.Bodies.{Width};
 ghost use Rattle.document_tokens.specs.Tokens.{declaredIn};
 ghost use Rattle.document_tokens.specs.Telling.{FormRoom};
-ghost use Rattle.document_row_writer.specs.Putting.{documentsIn, rowsOr, RowsRead, madeRow, madeCount, Advanced, RowsPut, Kept, TokenPut, SomePut};
+ghost use Rattle.document_row_writer.specs.Putting.{documentsIn, rowsOr, RowsRead, madeRow, madeCount, Advanced, RowsPut, Starts, Kept, TokenPut, SomePut};
 
 // ---- what a token does
 
@@ -63,6 +63,17 @@ pub struct Place {
     pub count: usize,
 }
 
+/// Where documents begin.
+pub fn start() -> Place
+    ensures { λ r. ⌜ Starts (r .depth) (r .tag) (r .count) ⌝ }
+{
+    Place {
+        depth: 0,
+        tag: false,
+        count: 0,
+    }
+}
+
 /// What was read and written: whether every token is exact, how many bytes they are, where the documents go on, and
 /// where the next row is written.
 pub struct Written {
@@ -76,15 +87,10 @@ pub struct Written {
 fn inexact() -> Written
     ensures { λ r. ⌜ r .exact ≡ false ⌝ }
 {
-    let place = Place {
-        depth: 0,
-        tag: false,
-        count: 0,
-    };
     Written {
         exact: false,
         size: 0,
-        place,
+        place: start(),
         at: 0,
     }
 }
@@ -174,11 +180,7 @@ pub fn put_documents(w: usize, form: &[u8], text: &[u8], out: &mut [u8], at: usi
     ensures { λ r. ⌜ Laid (each (rowBytes w) (rowsOr (documentsIn w (now (form .entry)) (now (text .entry))))) (now (out .entry)) at r (now (out .exit)) ⌝ }
 {
     let mut opened = [0; 256];
-    let place = Place {
-        depth: 0,
-        tag: false,
-        count: 0,
-    };
+    let place = start();
     let put = put_rows(
         w,
         form,

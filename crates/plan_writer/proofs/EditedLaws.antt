@@ -1,5 +1,5 @@
 -- The store after a plan by its bodies: its size, its header's numbers, its bytes.
-use Prim.Native.Nat.{ℕ, zero, suc, _+_, _-_, _*_, _≤_}
+use Prim.Native.Nat.{ℕ, _+_, _-_, _*_, _≤_}
 use native.Mathlib.Omega.{arith}
 use mathlib.Core.Path.{_≡_, refl, ap, _∙_, sym}
 use mathlib.Core.Bool.{Bool, true, false, not}
@@ -11,8 +11,7 @@ use Rattle.rules.specs.Bytes.{Bytes}
 use Rattle.rules.specs.Preorder.{Deep}
 use Rattle.rules.specs.Layout.{valueWidth, FlatRow, FlatStore, headerSize, rowSize, flatBytes, rowBytes, each}
 use Rattle.rules.specs.Decode.{numberAt}
-use Rattle.rules.specs.WellFormed.{withinCeilings, highestNumber}
-use Rattle.rules.specs.Outcome.{unlessRefused, Answers}
+use Rattle.rules.specs.WellFormed.{withinCeilings}
 use Rattle.rules.proofs.LayoutLaws.{length-row, length-each}
 use Rattle.codec.specs.Laid.{Laid}
 use Rattle.codec.proofs.Writers.{laid-as}
@@ -27,9 +26,8 @@ use Rattle.plan_writer.specs.Heads.{Heads}
 use Rattle.planned_rows.specs.Planned.{rowsAfter, plannedIn}
 use Rattle.store_laws.specs.Forms.{formRead, reformed, Forms}
 use Rattle.planned_rows.specs.Walking.{walkFrom}
-use Rattle.store_limits.specs.Limits.{limitOf}
 use Rattle.store_laws.proofs.StoreLaws.{Holds, width-of-bodies}
-use Rattle.store_limits.proofs.WithinLaws.{Within, as-limits, limit-within}
+use Rattle.store_limits.proofs.WithinLaws.{Within}
 use Rattle.plan_writer.proofs.OrderLaws.{laid-before}
 use Rattle.store_laws.proofs.FormBytesLaws.{count-definitions, count-particles, count-attributes, Few, few-of, few-definitions, few-particles, few-attributes, form-short}
 use Rattle.store_laws.proofs.FormBytesLaws.{whole, ceilings-rows, reformed-length, reformed-bytes}

@@ -1,6 +1,6 @@
 -- What the stages of the call find, put together: a form is confirmed, the documents are judged by it, the store of
 -- both has a length and bytes, and the answer is the one of the stages.
-use Prim.Native.Nat.{ℕ, _+_, _-_, _*_, _≤_, _<_}
+use Prim.Native.Nat.{ℕ, zero, suc, _+_, _-_, _*_, _≤_, _<_}
 use native.Mathlib.Omega.{arith}
 use mathlib.Core.Path.{_≡_, refl, sym, ap, _∙_, subst}
 use mathlib.Core.Bool.{Bool, true, false, not, _&&_, false≢true}
@@ -34,10 +34,10 @@ use Rattle.store_laws.proofs.FormBytesLaws.{whole, reformed-bytes}
 use Rattle.store_laws.proofs.FormLaws.{FormOf, read-form, forms-of, own-form, counted-definitions, counted-particles, counted-attributes}
 use Rattle.form_front.specs.Front.{frontStands, FrontOf}
 use Rattle.document_row_writer.specs.Putting.{documentsIn, rowsOr, RowsRead}
-use Rattle.document_reading.specs.Judging.{rowsFit}
+use Rattle.document_reading.specs.Judging.{rowsFit, rowsBehind, Stand}
 use Rattle.store_check.specs.Check.{byIndex}
 use Rattle.text_reading.specs.Stages.{withDocuments, rowsStand, ifRows, joinedBytes, documentsOutcome}
-use Rattle.read_call.specs.Reading.{Confirmed, rowsBehind, Stand, RowsThere, documentsStored}
+use Rattle.read_call.specs.Reading.{Confirmed, RowsThere, documentsStored}
 
 -- ---- the form, confirmed
 pub confirm-bad : (bs txt : Bytes) {r : Bool} → not r ≡ true → r ≡ passes bs → Confirmed bs txt false 0

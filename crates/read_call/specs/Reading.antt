@@ -2,34 +2,20 @@
 use Prim.Native.Nat.{ℕ, _≤_}
 use mathlib.Core.Path.{_≡_}
 use mathlib.Core.Bool.{Bool, true, _&&_}
-use mathlib.Core.Option.{Option}
-use mathlib.Core.List.{List}
 use lib.ListN.{length}
 use Rattle.rules.specs.Bytes.{Bytes}
-use Rattle.rules.specs.Preorder.{Deep}
-use Rattle.rules.specs.Layout.{FlatRow}
 use Rattle.rules.specs.WellFormed.{isThere}
 use Rattle.rules.specs.Passing.{passes}
-use Rattle.layout.specs.Bodies.{widthOf}
 use Rattle.printing.specs.Texts.{textOf}
 use Rattle.form_front.specs.Front.{frontStands}
-use Rattle.document_row_writer.specs.Putting.{documentsIn, rowsOr}
-use Rattle.document_reading.specs.Judging.{Judges}
-use Rattle.store_check.specs.Check.{byIndex}
+use Rattle.document_row_writer.specs.Putting.{rowsOr}
+use Rattle.document_reading.specs.Judging.{rowsBehind}
 use Rattle.text_reading.specs.Stages.{joinedBytes}
 
 -- a form that passes and is the front of a text, and how long it is there
 pub record Confirmed (bs txt : Bytes) (stands : Bool) (n : ℕ) : Type 0 where
   pub is : stands ≡ (passes bs && frontStands bs txt)
   pub size : stands ≡ true → n ≡ length (textOf bs)
-
--- the rows of the documents `rest` by the form of the store `bs`
-abbrev pub rowsBehind : Bytes → Bytes → Option (List (Deep FlatRow))
-rowsBehind bs rest = documentsIn (widthOf bs) bs rest
-
--- the documents stand, and are so many rows
-abbrev pub Stand : Bytes → Bytes → Bool → ℕ → Type 0
-Stand bs rest stands n = Judges (widthOf bs) (byIndex bs) (rowsBehind bs rest) stands n
 
 -- the rows are there, n of them
 pub record RowsThere (bs rest : Bytes) (n : ℕ) : Type 0 where

@@ -2,40 +2,30 @@
 use Prim.Native.Nat.{ℕ, zero, suc, _+_, _-_, _*_, _≤_}
 use native.Mathlib.Omega.{arith}
 use mathlib.Core.Path.{_≡_, refl, ap, _∙_, sym}
-use mathlib.Core.Bool.{Bool, true, false, not}
 use mathlib.Core.List.{List, _++_}
-use lib.Dec.{leb, ltb}
-use lib.ListN.{length, length-append}
-use borrow.Author.Tests.{lt-ltb, le-ltb, leb-true, leb-false}
+use lib.Dec.{ltb}
+use lib.ListN.{length}
 use Rattle.rules.specs.Bytes.{Bytes}
 use Rattle.rules.specs.Preorder.{Deep}
-use Rattle.rules.specs.Layout.{valueWidth, FlatRow, FlatStore, headerSize, rowSize, flatBytes, rowBytes, each}
+use Rattle.rules.specs.Layout.{valueWidth, FlatRow, FlatStore, flatBytes}
 use Rattle.rules.specs.Decode.{numberAt}
-use Rattle.rules.specs.WellFormed.{withinCeilings, highestNumber}
+use Rattle.rules.specs.WellFormed.{highestNumber}
 use Rattle.rules.specs.Outcome.{unlessRefused, Answers}
-use Rattle.rules.proofs.LayoutLaws.{length-row, length-each}
 use Rattle.codec.specs.Laid.{Laid}
 use Rattle.codec.proofs.Writers.{laid-as}
 use Rattle.lookup.specs.Bodies.{bodiesOf}
-use Rattle.layout.specs.Bodies.{widthOf, WidthIn}
-use Rattle.layout.specs.Header.{headed}
-use Rattle.row_writer.specs.declared.Cursor.{Cursor}
-use Rattle.row_writer.specs.Written.{newIn, numbered, rowsBytes, Written}
-use Rattle.row_writer.proofs.WrittenLaws.{written-fitting, length-numbered}
+use Rattle.layout.specs.Bodies.{widthOf}
+use Rattle.row_writer.specs.Written.{newIn}
 use Rattle.row_walk.specs.declared.Plan.{Plan}
 use Rattle.store_writer.specs.Writing.{limited}
 use Rattle.planned_rows.specs.Planned.{rowsAfter, plannedIn}
 use Rattle.store_laws.specs.Forms.{formRead, Forms}
-use Rattle.planned_rows.specs.Walking.{walkFrom}
 use Rattle.store_limits.specs.Limits.{limitOf}
-use Rattle.store_laws.proofs.StoreLaws.{Holds, width-of-bodies}
+use Rattle.store_laws.proofs.StoreLaws.{Holds}
 use Rattle.store_writer.proofs.LimitLaws.{answers-refused, answers-wrote, limited-as}
 use Rattle.store_limits.proofs.WithinLaws.{Within, as-limits, limit-within}
 use Rattle.plan_writer.proofs.EditedLaws.{width-after, size, past, next-is}
-use Rattle.store_laws.proofs.FormBytesLaws.{count-definitions, count-particles, count-attributes, Few, few-of, few-definitions, few-particles, few-attributes, form-short}
-use Rattle.store_laws.proofs.FormBytesLaws.{whole, ceilings-rows, reformed-length, reformed-bytes}
 use Rattle.layout.specs.Fields.{nextAt}
-use Rattle.store_laws.proofs.Encoded.{own-serial}
 
 module _ {bs : Bytes} (h : Holds bs) {form : Bytes} {d p a : ℕ} (x : Forms (widthOf bs) form d p a) (plan : Plan) (v : Bytes) where
   abbrev xs : List (Deep FlatRow)

@@ -29,12 +29,15 @@ abbrev μ-loop : tie.MeasureT-loop
 width-in-requires : tie.Need-width-in-requires Inv-loop μ-loop
 width-in-requires c κs = search needs
 
-loop-holds : tie.Need-loop-holds Inv-loop μ-loop
-loop-holds c = (length-replicate {A = ℕ} 4272 0, judging-start _ _ _ _ _ refl)
+start-requires : tie.Need-start-requires Inv-loop μ-loop
+start-requires c κs = search needs
 
-add-most : tie.Need-add-most Inv-loop μ-loop
-add-most c =
-    let at-loop = c .before in
+loop-holds : tie.Need-loop-holds Inv-loop μ-loop
+loop-holds c = (length-replicate {A = ℕ} 4272 0, judging-start _ _ _ _ _ refl (c .start .ensures))
+
+add-put-rows : tie.Need-add-put-rows Inv-loop μ-loop
+add-put-rows c =
+    let at-loop = c .before .before in
     omega (arith, at-loop .loop .inv .1 .few)
 
 slice-aggregate-put-rows : tie.Need-slice-aggregate-put-rows Inv-loop μ-loop
@@ -43,7 +46,7 @@ slice-aggregate-put-rows c = search needs
 put-rows-requires : tie.Need-put-rows-requires Inv-loop μ-loop
 put-rows-requires c κs =
     let at-loop = c .before .before .before in
-    let at-width-in = at-loop .before in
+    let at-width-in = at-loop .before .before in
     let start = at-width-in .before .before .before .before in
     let i = at-loop .loop .inv in
     (at-width-in .width-in .ensures .small, form-room (start .args .form .now) (start .pre .0), i .1 .stack, i .1 .deep, omega arith, omega (arith, i .1 .few), omega arith)
@@ -56,7 +59,7 @@ returns c =
     let at-if1 = c .before in
     let at-put-rows = at-if1 .before .before .before .before .before in
     let at-loop = at-put-rows .before .before .before .before in
-    let at-width-in = at-loop .before in
+    let at-width-in = at-loop .before .before in
     let start = at-width-in .before .before .before .before in
     let i = at-loop .loop .inv in
     let put = put-at (at-width-in .width-in .ensures) (at-put-rows .put-rows .ensures .0) in
@@ -67,7 +70,7 @@ array-share-prefix-rows c =
     let at-if1 = c in
     let at-put-rows = at-if1 .before .before .before .before .before in
     let at-loop = at-put-rows .before .before .before .before in
-    let at-width-in = at-loop .before in
+    let at-width-in = at-loop .before .before in
     let start = at-width-in .before .before .before .before in
     let i = at-loop .loop .inv in
     let put = put-at (at-width-in .width-in .ensures) (at-put-rows .put-rows .ensures .0) in
@@ -80,7 +83,7 @@ slice-aggregate-read c =
     let at-if1 = c .before in
     let at-put-rows = at-if1 .before .before .before .before .before in
     let at-loop = at-put-rows .before .before .before .before in
-    let at-width-in = at-loop .before in
+    let at-width-in = at-loop .before .before in
     let start = at-width-in .before .before .before .before in
     let i = at-loop .loop .inv in
     let put = put-at (at-width-in .width-in .ensures) (at-put-rows .put-rows .ensures .0) in
@@ -93,7 +96,7 @@ sub-rows-come c =
     let at-if1 = c .before .before .before .before in
     let at-put-rows = at-if1 .before .before .before .before .before in
     let at-loop = at-put-rows .before .before .before .before in
-    let at-width-in = at-loop .before in
+    let at-width-in = at-loop .before .before in
     let start = at-width-in .before .before .before .before in
     let i = at-loop .loop .inv in
     let put = put-at (at-width-in .width-in .ensures) (at-put-rows .put-rows .ensures .0) in
@@ -106,7 +109,7 @@ rows-come-requires c κs =
     let at-if1 = c .before .before .before .before in
     let at-put-rows = at-if1 .before .before .before .before .before in
     let at-loop = at-put-rows .before .before .before .before in
-    let at-width-in = at-loop .before in
+    let at-width-in = at-loop .before .before in
     let start = at-width-in .before .before .before .before in
     let i = at-loop .loop .inv in
     let put = put-at (at-width-in .width-in .ensures) (at-put-rows .put-rows .ensures .0) in
@@ -123,7 +126,7 @@ returns-2 c =
     let at-if1 = c .before .before .before .before .before .before .before in
     let at-put-rows = at-if1 .before .before .before .before .before in
     let at-loop = at-put-rows .before .before .before .before in
-    let at-width-in = at-loop .before in
+    let at-width-in = at-loop .before .before in
     let start = at-width-in .before .before .before .before in
     let i = at-loop .loop .inv in
     let put = put-at (at-width-in .width-in .ensures) (at-put-rows .put-rows .ensures .0) in
@@ -140,7 +143,7 @@ loop-less c =
     let at-if1 = c .before .before .before .before .before .before .before in
     let at-put-rows = at-if1 .before .before .before .before .before in
     let at-loop = at-put-rows .before .before .before .before in
-    let at-width-in = at-loop .before in
+    let at-width-in = at-loop .before .before in
     let start = at-width-in .before .before .before .before in
     let i = at-loop .loop .inv in
     let put = put-at (at-width-in .width-in .ensures) (at-put-rows .put-rows .ensures .0) in
@@ -155,7 +158,7 @@ loop-again c =
     let at-if1 = c .before .before .before .before .before .before .before in
     let at-put-rows = at-if1 .before .before .before .before .before in
     let at-loop = at-put-rows .before .before .before .before in
-    let at-width-in = at-loop .before in
+    let at-width-in = at-loop .before .before in
     let start = at-width-in .before .before .before .before in
     let i = at-loop .loop .inv in
     let put = put-at (at-width-in .width-in .ensures) (at-put-rows .put-rows .ensures .0) in
@@ -168,7 +171,7 @@ loop-again c =
 rows-end-requires : tie.Need-rows-end-requires Inv-loop μ-loop
 rows-end-requires c κs =
     let at-loop = c .before .before in
-    let start = at-loop .before .before .before .before .before in
+    let start = at-loop .before .before .before .before .before .before in
     (start .pre .0, start .pre .1, at-loop .loop .inv .1 .low)
 
 verdict-requires-3 : tie.Need-verdict-requires-3 Inv-loop μ-loop
@@ -187,8 +190,9 @@ judge-by-spec =
     Inv-loop
     μ-loop
     width-in-requires
+    start-requires
     loop-holds
-    add-most
+    add-put-rows
     slice-aggregate-put-rows
     put-rows-requires
     verdict-requires

@@ -17,7 +17,7 @@ use Rattle.codec.proofs.Writers.{laid-long}
 use Rattle.layout.specs.Bodies.{widthOf, WidthIn}
 use Rattle.form_index.specs.Indices.{IndexForm}
 use Rattle.next_row.specs.declared.Level.{Level}
-use Rattle.row_step.specs.Steps.{State, noLevels, startState, end, stateOf}
+use Rattle.row_step.specs.Steps.{noLevels, startState, end, stateOf}
 use Rattle.row_step.proofs.LevelLaws.{none-yet}
 use Rattle.row_check.specs.Stepping.{StepsMade}
 use Rattle.document_tokens.specs.Tokens.{Declared, declaredIn, withRows}

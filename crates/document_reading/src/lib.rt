@@ -106,16 +106,8 @@ fn judge_by(form: &[u8], table: &[u64], text: &[u8]) -> Judged
     let mut t = text;
     while 0 < t.len() {
         let before = place.count;
-        let put = document_row_writer::put_rows(
-            w,
-            form,
-            &mut opened,
-            place,
-            before + BATCH,
-            t,
-            &mut rows,
-            0,
-        );
+        let most = before + BATCH;
+        let put = document_row_writer::put_rows(w, form, &mut opened, place, most, t, &mut rows, 0);
         place = put.place;
         if !put.exact | (layout::MAX_ROWS < place.count) {
             return verdict(false, 0);

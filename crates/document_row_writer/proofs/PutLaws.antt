@@ -1,5 +1,5 @@
 -- The rows of documents, written: what some tokens give, and what the tokens after them give, is what all of them give.
-use mathlib.Core.Path.{_≡_, refl, sym, ap, subst, _∙_}
+use mathlib.Core.Path.{_≡_, refl, sym, ap, _∙_}
 use mathlib.Core.Bool.{Bool, true, false, _&&_, _||_, false≢true}
 use mathlib.Core.Option.{Option, none, some}
 use mathlib.Core.List.{List, [], _∷_, _++_, append-nil, append-assoc}
@@ -18,7 +18,7 @@ use Rattle.rules.specs.WellFormed.{isThere}
 use Rattle.rules.proofs.Words.{and-split}
 use Rattle.rules.proofs.LayoutLaws.{each-append}
 use Rattle.codec.specs.Laid.{Laid}
-use Rattle.codec.proofs.Writers.{laid-none, laid-then, laid-as, laid-long}
+use Rattle.codec.proofs.Writers.{laid-none, laid-then, laid-as}
 use Rattle.layout.specs.Bodies.{Width}
 use Rattle.layout.specs.RowBytes.{rowOf, RowLaid}
 use Rattle.document_tokens.specs.Tokens.{Declared, declaredIn, Token, tokenAt, withRows}

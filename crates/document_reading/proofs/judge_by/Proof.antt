@@ -35,9 +35,9 @@ start-requires c κs = search needs
 loop-holds : tie.Need-loop-holds Inv-loop μ-loop
 loop-holds c = (length-replicate {A = ℕ} 4272 0, judging-start _ _ _ _ _ refl (c .start .ensures))
 
-add-put-rows : tie.Need-add-put-rows Inv-loop μ-loop
-add-put-rows c =
-    let at-loop = c .before .before in
+add-most : tie.Need-add-most Inv-loop μ-loop
+add-most c =
+    let at-loop = c .before in
     omega (arith, at-loop .loop .inv .1 .few)
 
 slice-aggregate-put-rows : tie.Need-slice-aggregate-put-rows Inv-loop μ-loop
@@ -192,7 +192,7 @@ judge-by-spec =
     width-in-requires
     start-requires
     loop-holds
-    add-put-rows
+    add-most
     slice-aggregate-put-rows
     put-rows-requires
     verdict-requires

@@ -1,7 +1,6 @@
 -- `document_reading::rows_come` meets its contract: what the steps ask of the bodies that are cut out follows from the
 -- form's bytes (`cut-few`, `cut-room`, `cut-table` of FormLaws), and what they answer is said of those bytes
 -- (`steps-cut`).
-use native.Mathlib.Omega.{arith}
 use lib.ListN.{length}
 use Rattle.store_check.proofs.CallLaws.{cut-of}
 use Rattle.document_reading.proofs.FormLaws.{cut-few, cut-table, cut-room, steps-cut}

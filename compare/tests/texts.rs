@@ -75,6 +75,37 @@ fn texts_that_no_store_prints() {
     }
 }
 
+/// Lists of every length up to forty finishers, and lists of forty with a fault in each of them in turn: the library
+/// judges rows some at a time, and no row may be passed over or judged twice where one lot ends.
+#[test]
+fn a_fault_at_every_finisher() {
+    const FINISHER: &str = "<finisher><bib>7</bib><time>19:04</time></finisher>";
+    const FAULTS: [&str; 5] = [
+        "<finisher><time>19:04</time></finisher>",
+        "<finisher><bib>7</bib><bib>7</bib></finisher>",
+        "<finisher><bib>7</bib><time>19:04</time>",
+        "<finisher><bib>7</bib><time>19:04</bib></finisher>",
+        "<race></race>",
+    ];
+    let declared = "<!ELEMENT race (finisher*)>\n<!ELEMENT finisher (bib,time?)>\n<!ELEMENT bib (#PCDATA)>\n<!ELEMENT time (#PCDATA)>\n";
+    let list = |finishers: &[&str]| format!("{declared}<race>{}</race>\n", finishers.concat());
+    let rng = &mut Rng::new(1);
+    for count in 0..=40 {
+        let text = list(&vec![FINISHER; count]);
+        let store = read(rng, text.as_bytes()).expect("a list is read");
+        assert_eq!(store.len(), 40 + 4 * 20 + 3 * 4 + (1 + 5 * count) * 44);
+        assert!(printed(&store) == text.as_bytes());
+    }
+    for place in 0..40 {
+        for fault in FAULTS {
+            let mut finishers = [FINISHER; 40];
+            finishers[place] = fault;
+            let text = list(&finishers);
+            assert!(read(rng, text.as_bytes()).is_none(), "{fault} at {place}");
+        }
+    }
+}
+
 /// The library alone answers within a second.
 #[test]
 fn hostile_texts() {

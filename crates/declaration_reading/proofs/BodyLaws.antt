@@ -167,7 +167,7 @@ module _ {body : Body} {defs text out₀ : Bytes} {at₀ : ℕ} {out : Bytes} {a
             goes = λ r q m. w .goes r q (laid-as whole (laid-then l m));
             ready =
                 record {
-                  taken = w .ready .taken;
+                  asks = w .ready .asks;
                   fits = fits-on u (w .ready .fits) e;
                   room = omega (arith, w .ready .room, l .next, ap length whole, length-append first later);
                 };
@@ -177,7 +177,7 @@ module _ {body : Body} {defs text out₀ : Bytes} {at₀ : ℕ} {out : Bytes} {a
     pub writing-first : Ready body defs at o (line ∷ [])
     writing-first =
         let parts = length-append first (later {o′ = ownersAfter line o} refl) in
-        record { taken = w .ready .taken; fits = fits-first u (w .ready .fits); room = omega (arith, w .ready .room, ap length (whole refl), parts) }
+        record { asks = w .ready .asks; fits = fits-first u (w .ready .fits); room = omega (arith, w .ready .room, ap length (whole refl), parts) }
 
   pub writing-done : declarations t ≡ [] → Laid (saidBody body defs 0 (declarations text)) out₀ at₀ at out
   writing-done none = w .goes at out (laid-as (ap (saidBody body defs o) none ∙ body-end body defs o) laid-none)

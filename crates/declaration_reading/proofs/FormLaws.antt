@@ -111,7 +111,7 @@ pub record Aside (ls : List Bytes) (d : ℕ) (defs : Bytes) (size : ℕ) : Type 
 
 module _ {ls : List Bytes} (f : FormFits 0 ls) where
   pub definitions-ready : Ready Definitions [] 0 0 ls
-  definitions-ready = record { taken = tt; fits = f; room = omega (arith, definitions-size ls f) }
+  definitions-ready = record { asks = tt; fits = f; room = omega (arith, definitions-size ls f) }
 
   pub written-aside : {d : ℕ} {zeros defs : Bytes} {size : ℕ} → d ≡ length (definitionsOfLines ls) → length zeros ≡ 1280 → Laid (saidDefinitions ls) zeros 0 size defs → Aside ls d defs size
   unfolding writtenNames saidDefinitions
@@ -189,12 +189,12 @@ module _ {ls : List Bytes} (f : FormFits 0 ls) {d : ℕ} {defs : Bytes} {size : 
 
     pub particles-ready : Ready (Particles d) defs a₁ 0 ls
     particles-ready =
-        record { taken = (s .few, omega (arith, s .few, s .long)); fits = f; room = omega (arith, defined-next, particles-size ls f (writtenNames d defs)) }
+        record { asks = (s .few, omega (arith, s .few, s .long)); fits = f; room = omega (arith, defined-next, particles-size ls f (writtenNames d defs)) }
 
     module _ {w : ℕ} (g : Width w) {o₂ : Bytes} {a₂ : ℕ} (y : Laid (saidParticles (writtenNames d defs) ls) o₁ a₁ a₂ o₂) where
       pub attributes-ready : Ready (Attributes w) defs a₂ 0 ls
       attributes-ready =
-          record { taken = g; fits = f; room = omega (arith, defined-next, y .next, particles-size ls f (writtenNames d defs), attributes-size ls f w g) }
+          record { asks = g; fits = f; room = omega (arith, defined-next, y .next, particles-size ls f (writtenNames d defs), attributes-size ls f w g) }
 
       pub bodies-laid : {o₃ : Bytes} {r : ℕ} → Laid (saidAttributes w 0 ls) o₂ a₂ r o₃ → Laid (formBodies w ls) out at r o₃
       unfolding formBodies

@@ -56,11 +56,11 @@ saidBody Definitions defs o ls = saidDefinitions ls
 saidBody (Particles n) defs o ls = saidParticles (writtenNames n defs) ls
 saidBody (Attributes w) defs o ls = saidAttributes w o ls
 
--- .. and what it takes besides the lines
-abbrev pub Taken : Body → Bytes → Type 0
-Taken Definitions defs = Unit
-Taken (Particles n) defs = (n ≤ 64) × (20 * n ≤ length defs)
-Taken (Attributes w) defs = Width w
+-- .. and what it asks for besides the lines
+abbrev pub BodyAsks : Body → Bytes → Type 0
+BodyAsks Definitions defs = Unit
+BodyAsks (Particles n) defs = (n ≤ 64) × (20 * n ≤ length defs)
+BodyAsks (Attributes w) defs = Width w
 
 -- ---- the form
 -- the header of a store without rows, of these counts
@@ -80,7 +80,7 @@ pub record FormFits (o : ℕ) (ls : List Bytes) : Type 0 where
 
 -- what lines say of a body can be written from `at` on
 pub record Ready (body : Body) (defs : Bytes) (at o : ℕ) (ls : List Bytes) : Type 0 where
-  pub taken : Taken body defs
+  pub asks : BodyAsks body defs
   pub fits : FormFits o ls
   pub room : at + length (saidBody body defs o ls) < 1152921504606846976
 

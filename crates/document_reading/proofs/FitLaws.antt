@@ -79,9 +79,9 @@ module _ (w : ℕ) (f : IndexForm) where
         ∙ and-none (leb (m + length xs + length ys) 4096)
 
     -- they may: what is left is judged from the state after them
-    pub fit-taken : (m : ℕ) (o : Option (List (Deep FlatRow))) → answer ≡ true → fitFrom w f m (stateOf s live) (withRows xs o) ≡ fitFrom w f (m + length xs) (stateOf s′ live′) o
-    fit-taken m none e = refl
-    fit-taken m (some ys) e =
+    pub fit-after : (m : ℕ) (o : Option (List (Deep FlatRow))) → answer ≡ true → fitFrom w f m (stateOf s live) (withRows xs o) ≡ fitFrom w f (m + length xs) (stateOf s′ live′) o
+    fit-after m none e = refl
+    fit-after m (some ys) e =
         fit-more m (stateOf s live) xs ys
         ∙ ap (λ (z : Option State). leb (m + length xs + length ys) 4096 && stateEnds f (walk w f (length ys) (each (rowBytes w) ys) z)) (p .state e)
 

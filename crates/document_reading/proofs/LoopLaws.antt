@@ -23,11 +23,11 @@ use Rattle.row_check.specs.Stepping.{StepsMade}
 use Rattle.document_tokens.specs.Tokens.{Declared, declaredIn, withRows}
 use Rattle.document_tokens.specs.Telling.{stackOf}
 use Rattle.document_tokens.proofs.ChoiceLaws.{stack-size}
-use Rattle.document_row_writer.specs.Putting.{documentsIn, rowsOr, rowsHere, Starts, Taken, SomePut}
+use Rattle.document_row_writer.specs.Putting.{documentsIn, rowsOr, rowsHere, Starts, PartRead, SomePut}
 use Rattle.document_row_writer.proofs.RowLaws.{rows-ended}
 use Rattle.document_row_writer.proofs.PutLaws.{rows-start}
 use Rattle.document_reading.specs.Judging.{fitFrom, rowsFit, Judges}
-use Rattle.document_reading.proofs.FitLaws.{fit-refused, fit-taken, fit-many, more-rows, fit-ended, rows-front, rows-size}
+use Rattle.document_reading.proofs.FitLaws.{fit-refused, fit-after, fit-many, more-rows, fit-ended, rows-front, rows-size}
 
 -- the tokens are exact, and the rows are not too many
 pub goes-further : (exact : Bool) (m : ℕ) → (not exact || ltb 4096 m) ≡ false → (exact ≡ true) × (m ≤ 4096)
@@ -84,63 +84,63 @@ module _ {w : ℕ} {f : IndexForm} {d : Declared} {rows : Option (List (Deep Fla
     judging-inexact e g = record { is = g ∙ sym (p .is ∙ ap (fitFrom w f m (stateOf s live)) (q .refuses e)); counts = λ x. absurd (false≢true (sym g ∙ x)) }
 
     module _ (e : exact ≡ true) where
-      abbrev taken : Taken w d t m opened depth tag out 0 size m′ opened′ depth′ tag′ out′ at′
-      taken = q .takes e
+      abbrev part : PartRead w d t m opened depth tag out 0 size m′ opened′ depth′ tag′ out′ at′
+      part = q .reads e
 
       abbrev left : Option (List (Deep FlatRow))
       left = rowsHere w d m′ opened′ depth′ tag′ (drop size t)
 
       -- the verdict on them
-      fit-is : {b : Bool} → fitFrom w f m (stateOf s live) (withRows (taken .made) left) ≡ b → rowsFit w f rows ≡ b
-      fit-is h = p .is ∙ ap (fitFrom w f m (stateOf s live)) (taken .rows) ∙ h
+      fit-is : {b : Bool} → fitFrom w f m (stateOf s live) (withRows (part .made) left) ≡ b → rowsFit w f rows ≡ b
+      fit-is h = p .is ∙ ap (fitFrom w f m (stateOf s live)) (part .rows) ∙ h
 
       pub judging-many : 4096 < m′ → {b : Bool} {k : ℕ} → b ≡ false → Judges w f rows b k
       judging-many h g =
           record {
-            is = g ∙ sym (fit-is (fit-many w f m (stateOf s live) (taken .made) left (omega (arith, taken .counted))));
+            is = g ∙ sym (fit-is (fit-many w f m (stateOf s live) (part .made) left (omega (arith, part .counted))));
             counts = λ x. absurd (false≢true (sym g ∙ x));
           }
 
       -- the bytes of the rows that were put, where there is room for them
       pub batch-room : limit ≤ m + 16 → at′ ≤ 4272
-      batch-room h = omega (arith, taken .put .small, taken .counted, q .ceiling e)
+      batch-room h = omega (arith, part .put .small, part .counted, q .ceiling e)
 
       pub batch-whole : at′ ≤ length out → at′ ≡ length (take at′ out′)
-      batch-whole room = sym (length-take-le at′ out′ (omega (arith, laid-long (taken .put .laid))))
+      batch-whole room = sym (length-take-le at′ out′ (omega (arith, laid-long (part .put .laid))))
 
       pub batch-size : {k : ℕ} → k ≡ m′ - m → at′ ≤ length out → rowSize w * k ≤ length (take at′ out′)
       batch-size {k} h room =
-          let many : k ≡ length (taken .made) = omega (arith, taken .counted) in
-          omega (arith, rows-size (taken .put) room, ap (λ (n : ℕ). rowSize w * n) many)
+          let many : k ≡ length (part .made) = omega (arith, part .counted) in
+          omega (arith, rows-size (part .put) room, ap (λ (n : ℕ). rowSize w * n) many)
 
       pub batch-steps : {k : ℕ} → k ≡ m′ - m → at′ ≤ length out → {bs : Bytes} → bs ≡ take at′ out′ → {answer : Bool} {s′ : List ℕ} {live′ : ℕ} → StepsMade w f s live k bs answer s′ live′
-          → StepsMade w f s live (length (taken .made)) (each (rowBytes w) (taken .made)) answer s′ live′
+          → StepsMade w f s live (length (part .made)) (each (rowBytes w) (part .made)) answer s′ live′
       batch-steps {k} h room {bs} g {answer} {s′} {live′} made =
-          let many : k ≡ length (taken .made) = omega (arith, taken .counted) in
-          subst (λ (u : Bytes). StepsMade w f s live (length (taken .made)) u answer s′ live′) (g ∙ rows-front (taken .put) room)
+          let many : k ≡ length (part .made) = omega (arith, part .counted) in
+          subst (λ (u : Bytes). StepsMade w f s live (length (part .made)) u answer s′ live′) (g ∙ rows-front (part .put) room)
           (subst (λ (n : ℕ). StepsMade w f s live n bs answer s′ live′) many made)
 
-      module _ {answer : Bool} {s′ : List ℕ} {live′ : ℕ} (made : StepsMade w f s live (length (taken .made)) (each (rowBytes w) (taken .made)) answer s′ live′) where
+      module _ {answer : Bool} {s′ : List ℕ} {live′ : ℕ} (made : StepsMade w f s live (length (part .made)) (each (rowBytes w) (part .made)) answer s′ live′) where
         pub judging-refused : answer ≡ false → {b : Bool} {k : ℕ} → b ≡ false → Judges w f rows b k
-        judging-refused h g = record { is = g ∙ sym (fit-is (fit-refused w f (taken .made) made m left h)); counts = λ x. absurd (false≢true (sym g ∙ x)) }
+        judging-refused h g = record { is = g ∙ sym (fit-is (fit-refused w f (part .made) made m left h)); counts = λ x. absurd (false≢true (sym g ∙ x)) }
 
         pub judging-on : {t′ : Bytes} → answer ≡ true → m′ ≤ 4096 → length opened′ ≡ 256 → t′ ≡ drop size t → Judging w f d rows s′ live′ opened′ depth′ tag′ m′ t′
         judging-on h few stack g =
             let goes : fitFrom w f m (stateOf s live) (rowsHere w d m opened depth tag t) ≡ fitFrom w f m′ (stateOf s′ live′) left =
-            ap (fitFrom w f m (stateOf s live)) (taken .rows) ∙ fit-taken w f (taken .made) made m left h ∙ ap (λ (k : ℕ). fitFrom w f k (stateOf s′ live′) left) (taken .counted) in
+            ap (fitFrom w f m (stateOf s live)) (part .rows) ∙ fit-after w f (part .made) made m left h ∙ ap (λ (k : ℕ). fitFrom w f k (stateOf s′ live′) left) (part .counted) in
             rw g
             (record {
               is = p .is ∙ goes;
               counts = λ x.
                   p .counts (goes ∙ x)
-                  ∙ ap (λ (o : Option (List (Deep FlatRow))). m + length (rowsOr o)) (taken .rows)
-                  ∙ more-rows w f (taken .made) m′ m (stateOf s′ live′) left x
-                  ∙ ap (λ (k : ℕ). k + length (rowsOr left)) (taken .counted);
+                  ∙ ap (λ (o : Option (List (Deep FlatRow))). m + length (rowsOr o)) (part .rows)
+                  ∙ more-rows w f (part .made) m′ m (stateOf s′ live′) left x
+                  ∙ ap (λ (k : ℕ). k + length (rowsOr left)) (part .counted);
               few = few;
               long = made .long;
               low = made .low;
               stack = stack;
-              deep = taken .deep;
+              deep = part .deep;
             })
 
     pub judging-over : (not exact || ltb 4096 m′) ≡ true → {b : Bool} {k : ℕ} → b ≡ false → Judges w f rows b k

@@ -24,7 +24,7 @@ use Rattle.layout.specs.RowBytes.{rowOf, RowLaid}
 use Rattle.document_tokens.specs.Tokens.{Declared, declaredIn, Token, tokenAt, withRows}
 use Rattle.document_tokens.specs.Telling.{stackOf, Tells, TokenTold}
 use Rattle.document_tokens.proofs.TokenLaws.{token-fits}
-use Rattle.document_row_writer.specs.Putting.{documentsIn, rowsOr, RowsRead, rowsHere, madeRow, madeCount, Advanced, RowsPut, Starts, Taken, TokenPut, SomePut}
+use Rattle.document_row_writer.specs.Putting.{documentsIn, rowsOr, RowsRead, rowsHere, madeRow, madeCount, Advanced, RowsPut, Starts, PartRead, TokenPut, SomePut}
 use Rattle.document_row_writer.proofs.RowLaws.{rows-refused, rows-ended}
 use Rattle.document_row_writer.proofs.AfterLaws.{made-many, made-few, rows-made, made-counted, rows-left}
 
@@ -45,10 +45,10 @@ rows-twice : (xs ys : List (Deep FlatRow)) (o : Option (List (Deep FlatRow))) �
 rows-twice xs ys none = refl
 rows-twice xs ys (some zs) = ap (λ (l : List (Deep FlatRow)). some l) (sym (append-assoc xs ys zs))
 
--- ---- what was taken
-pub taken-none : {w : ℕ} {d : Declared} {txt : Bytes} {m : ℕ} {opened : Bytes} {depth : ℕ} {tag : Bool} {out : Bytes} {at : ℕ} → depth ≤ 255
-    → Taken w d txt m opened depth tag out at 0 m opened depth tag out at
-taken-none {w} {d} {txt} {m} {opened} {depth} {tag} h =
+-- ---- what was read of a text
+pub part-none : {w : ℕ} {d : Declared} {txt : Bytes} {m : ℕ} {opened : Bytes} {depth : ℕ} {tag : Bool} {out : Bytes} {at : ℕ} → depth ≤ 255
+    → PartRead w d txt m opened depth tag out at 0 m opened depth tag out at
+part-none {w} {d} {txt} {m} {opened} {depth} {tag} h =
     record {
       made = [];
       rows = rows-none (rowsHere w d m opened depth tag txt);
@@ -60,12 +60,12 @@ taken-none {w} {d} {txt} {m} {opened} {depth} {tag} h =
     }
 
 module _ {w : ℕ} {d : Declared} {txt : Bytes} {m : ℕ} {opened : Bytes} {depth : ℕ} {tag : Bool} {out : Bytes} {at size m₁ : ℕ} {opened₁ : Bytes} {depth₁ : ℕ} {tag₁ : Bool} {out₁ : Bytes} {at₁ : ℕ}
-    (p : Taken w d txt m opened depth tag out at size m₁ opened₁ depth₁ tag₁ out₁ at₁) where
+    (p : PartRead w d txt m opened depth tag out at size m₁ opened₁ depth₁ tag₁ out₁ at₁) where
   -- .. and then from there on
-  pub taken-then : {t : Bytes} {more m₂ : ℕ} {opened₂ : Bytes} {depth₂ : ℕ} {tag₂ : Bool} {out₂ : Bytes} {at₂ : ℕ} → t ≡ drop size txt
-      → Taken w d t m₁ opened₁ depth₁ tag₁ out₁ at₁ more m₂ opened₂ depth₂ tag₂ out₂ at₂
-      → Taken w d txt m opened depth tag out at (size + more) m₂ opened₂ depth₂ tag₂ out₂ at₂
-  taken-then {t} {more} {m₂} {opened₂} {depth₂} {tag₂} {out₂} {at₂} e q =
+  pub part-then : {t : Bytes} {more m₂ : ℕ} {opened₂ : Bytes} {depth₂ : ℕ} {tag₂ : Bool} {out₂ : Bytes} {at₂ : ℕ} → t ≡ drop size txt
+      → PartRead w d t m₁ opened₁ depth₁ tag₁ out₁ at₁ more m₂ opened₂ depth₂ tag₂ out₂ at₂
+      → PartRead w d txt m opened depth tag out at (size + more) m₂ opened₂ depth₂ tag₂ out₂ at₂
+  part-then {t} {more} {m₂} {opened₂} {depth₂} {tag₂} {out₂} {at₂} e q =
       let xs = p .made in
       let ys = q .made in
       let left : drop more t ≡ drop (size + more) txt = ap (drop more) e ∙ drop-drop more size txt in
@@ -86,8 +86,8 @@ module _ {w : ℕ} {d : Declared} {txt : Bytes} {m : ℕ} {opened : Bytes} {dept
       }
 
   -- .. where no rows are
-  pub taken-refused : {t : Bytes} → t ≡ drop size txt → rowsHere w d m₁ opened₁ depth₁ tag₁ t ≡ none → rowsHere w d m opened depth tag txt ≡ none
-  taken-refused e q = p .rows ∙ ap (withRows (p .made)) (ap (rowsHere w d m₁ opened₁ depth₁ tag₁) (sym e) ∙ q)
+  pub part-refused : {t : Bytes} → t ≡ drop size txt → rowsHere w d m₁ opened₁ depth₁ tag₁ t ≡ none → rowsHere w d m opened depth tag txt ≡ none
+  part-refused e q = p .rows ∙ ap (withRows (p .made)) (ap (rowsHere w d m₁ opened₁ depth₁ tag₁) (sym e) ∙ q)
 
 -- ---- the token
 module _ (w : ℕ) (d : Declared) (txt : Bytes) (m : ℕ) (opened : Bytes) (depth : ℕ) (tag : Bool) (there : 0 < length txt) where
@@ -100,7 +100,7 @@ module _ (w : ℕ) (d : Declared) (txt : Bytes) (m : ℕ) (opened : Bytes) (dept
   token-refused p e g =
       record {
         refuses = λ x. rows-refused d w (m + 1) (stackOf depth opened) tag txt there (sym (p .is) ∙ e);
-        takes = λ x. absurd (false≢true (sym g ∙ x));
+        reads = λ x. absurd (false≢true (sym g ∙ x));
         onward = λ x. absurd (false≢true (sym g ∙ x));
         more = λ x. absurd (false≢true (sym g ∙ x));
       }
@@ -114,7 +114,7 @@ module _ (w : ℕ) (d : Declared) (txt : Bytes) (m : ℕ) (opened : Bytes) (dept
       let onward : 0 < size′ = omega (arith, told .size-is, fits .onward) in
       record {
         refuses = λ x. absurd (false≢true (sym x));
-        takes =
+        reads =
             λ x. record {
               made = madeRow sort depth index (m + 1) v;
               rows =
@@ -138,25 +138,25 @@ goes-on size all m limit e = let (a, b) = and-split (ltb size all) (ltb m limit)
 -- no more rows than the limit were written
 pub record Putting (w : ℕ) (d : Declared) (txt : Bytes) (m : ℕ) (opened : Bytes) (depth : ℕ) (tag : Bool) (limit : ℕ) (out : Bytes) (at : ℕ)
     (size m′ : ℕ) (opened′ : Bytes) (depth′ : ℕ) (tag′ : Bool) (out′ : Bytes) (at′ : ℕ) : Type 0 where
-  pub taken : Taken w d txt m opened depth tag out at size m′ opened′ depth′ tag′ out′ at′
+  pub part : PartRead w d txt m opened depth tag out at size m′ opened′ depth′ tag′ out′ at′
   pub ceiling : m′ ≤ limit
 
 module _ {w : ℕ} {d : Declared} {txt : Bytes} {m : ℕ} {opened : Bytes} {depth : ℕ} {tag : Bool} {limit : ℕ} {out : Bytes} {at size m₁ : ℕ} {opened₁ : Bytes} {depth₁ : ℕ} {tag₁ : Bool}
     {out₁ : Bytes} {at₁ : ℕ} (p : Putting w d txt m opened depth tag limit out at size m₁ opened₁ depth₁ tag₁ out₁ at₁) where
   pub putting-room : limit ≤ 8192 → at₁ ≤ at + 2187264
-  putting-room h = omega (arith, p .taken .put .small, p .taken .counted, p .ceiling)
+  putting-room h = omega (arith, p .part .put .small, p .part .counted, p .ceiling)
 
   module _ {t : Bytes} {exact : Bool} {more m₂ : ℕ} {opened₂ : Bytes} {depth₂ : ℕ} {tag₂ : Bool} {out₂ : Bytes} {at₂ : ℕ} (e : t ≡ drop size txt)
       (q : TokenPut w d t m₁ opened₁ depth₁ tag₁ out₁ at₁ exact more m₂ opened₂ depth₂ tag₂ out₂ at₂) where
     pub putting-on : exact ≡ true → m₁ < limit → Putting w d txt m opened depth tag limit out at (size + more) m₂ opened₂ depth₂ tag₂ out₂ at₂
-    putting-on x h = record { taken = taken-then (p .taken) e (q .takes x); ceiling = omega (arith, q .more x) }
+    putting-on x h = record { part = part-then (p .part) e (q .reads x); ceiling = omega (arith, q .more x) }
 
     pub putting-refused : exact ≡ false → {b : Bool} {size′ m′ depth′ : ℕ} {tag′ : Bool} {out′ opened′ : Bytes} {at′ : ℕ} → b ≡ false
         → SomePut w d txt m opened depth tag limit out at b size′ m′ opened′ depth′ tag′ out′ at′
     putting-refused x g =
         record {
-          refuses = λ y. taken-refused (p .taken) e (q .refuses x);
-          takes = λ y. absurd (false≢true (sym g ∙ y));
+          refuses = λ y. part-refused (p .part) e (q .refuses x);
+          reads = λ y. absurd (false≢true (sym g ∙ y));
           onward = λ y. absurd (false≢true (sym g ∙ y));
           ceiling = λ y. absurd (false≢true (sym g ∙ y));
           ends = λ y. absurd (false≢true (sym g ∙ y));
@@ -177,8 +177,8 @@ module _ {w : ℕ} {d : Declared} {txt : Bytes} {m : ℕ} {opened : Bytes} {dept
   putting-ended h g =
       record {
         refuses = λ x. absurd (false≢true (sym x));
-        takes = λ x. p .taken;
-        onward = λ x y. ⊎-elim (λ z. omega arith) (λ z. omega (arith, p .taken .few, p .taken .counted)) (ended g);
+        reads = λ x. p .part;
+        onward = λ x y. ⊎-elim (λ z. omega arith) (λ z. omega (arith, p .part .few, p .part .counted)) (ended g);
         ceiling = λ x. p .ceiling;
         ends = λ x y. ⊎-elim (λ z. z) (λ z. absurd (omega arith)) (ended g);
       }
@@ -199,7 +199,8 @@ unfolding stackOf
 rows-start w form txt opened s = λ i. rowsHere w (declaredIn form) (s .count-is i) opened (s .depth-is i) (s .tag-is i) txt
 
 -- rows written up to a limit that is past the last are all rows
-module _ (w : ℕ) (form txt opened : Bytes) (read : RowsRead w form txt) {depth : ℕ} {tag : Bool} {m : ℕ} (s : Starts depth tag m) {out : Bytes} {at : ℕ} {exact : Bool} {size m′ : ℕ} {opened′ : Bytes} {depth′ : ℕ} {tag′ : Bool} {out′ : Bytes} {at′ : ℕ}
+module _ (w : ℕ) (form txt opened : Bytes) (read : RowsRead w form txt) {depth : ℕ} {tag : Bool} {m : ℕ} (s : Starts depth tag m) {out : Bytes} {at : ℕ}
+    {exact : Bool} {size m′ : ℕ} {opened′ : Bytes} {depth′ : ℕ} {tag′ : Bool} {out′ : Bytes} {at′ : ℕ}
     (p : SomePut w (declaredIn form) txt m opened depth tag 4097 out at exact size m′ opened′ depth′ tag′ out′ at′) where
   abbrev rows : Option (List (Deep FlatRow))
   rows = documentsIn w form txt
@@ -211,30 +212,30 @@ module _ (w : ℕ) (form txt opened : Bytes) (read : RowsRead w form txt) {depth
       by true e = e
       by false e = absurd (false≢true (sym (ap isThere (sym (rows-start w form txt opened s) ∙ p .refuses e)) ∙ read .there))
 
-  taken : Taken w (declaredIn form) txt m opened depth tag out at size m′ opened′ depth′ tag′ out′ at′
-  taken = p .takes all-exact
+  part : PartRead w (declaredIn form) txt m opened depth tag out at size m′ opened′ depth′ tag′ out′ at′
+  part = p .reads all-exact
 
   abbrev left : Option (List (Deep FlatRow))
   left = rowsHere w (declaredIn form) m′ opened′ depth′ tag′ (drop size txt)
 
-  are : rows ≡ withRows (taken .made) left
-  are = sym (rows-start w form txt opened s) ∙ taken .rows
+  are : rows ≡ withRows (part .made) left
+  are = sym (rows-start w form txt opened s) ∙ part .rows
 
-  there : isThere (withRows (taken .made) left) ≡ true
+  there : isThere (withRows (part .made) left) ≡ true
   there = sym (ap isThere are) ∙ read .there
 
-  many : (o : Option (List (Deep FlatRow))) → isThere o ≡ true → length (taken .made) ≤ length (rowsOr (withRows (taken .made) o))
+  many : (o : Option (List (Deep FlatRow))) → isThere o ≡ true → length (part .made) ≤ length (rowsOr (withRows (part .made) o))
   many none e = absurd (false≢true e)
-  many (some ys) e = omega (arith, length-append (taken .made) ys)
+  many (some ys) e = omega (arith, length-append (part .made) ys)
 
   few : m′ < 4097
-  few = omega (arith, s .count-is, taken .counted, many left (rows-there (taken .made) left there), ap (λ (o : Option (List (Deep FlatRow))). length (rowsOr o)) are, read .few)
+  few = omega (arith, s .count-is, part .counted, many left (rows-there (part .made) left there), ap (λ (o : Option (List (Deep FlatRow))). length (rowsOr o)) are, read .few)
 
   over : left ≡ elim (isNone (stackOf depth′ opened′)) [ true ↦ some [] | false ↦ none ]
   over = rows-ended (declaredIn form) w (m′ + 1) (stackOf depth′ opened′) tag′ (drop size txt) (omega (arith, p .ends all-exact few, length-drop size txt))
 
   pub documents-put : Laid (each (rowBytes w) (rowsOr rows)) out at at′ out′
   documents-put =
-      let whole : rows ≡ withRows (taken .made) (elim (isNone (stackOf depth′ opened′)) [ true ↦ some [] | false ↦ none ]) = are ∙ ap (withRows (taken .made)) over in
-      let made : rowsOr rows ≡ taken .made = ap rowsOr whole ∙ rows-all (taken .made) (stackOf depth′ opened′) (sym (ap isThere whole) ∙ read .there) in
-      laid-as (ap (each (rowBytes w)) made) (taken .put .laid)
+      let whole : rows ≡ withRows (part .made) (elim (isNone (stackOf depth′ opened′)) [ true ↦ some [] | false ↦ none ]) = are ∙ ap (withRows (part .made)) over in
+      let made : rowsOr rows ≡ part .made = ap rowsOr whole ∙ rows-all (part .made) (stackOf depth′ opened′) (sym (ap isThere whole) ∙ read .there) in
+      laid-as (ap (each (rowBytes w)) made) (part .put .laid)

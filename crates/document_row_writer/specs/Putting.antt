@@ -58,7 +58,7 @@ pub record RowsPut (w : ℕ) (xs : List (Deep FlatRow)) (out : Bytes) (at r : �
 
 -- The first `size` bytes of a text were read, and the rows that they make written: what is read of a text is those rows
 -- and what is read from there on.
-pub record Taken (w : ℕ) (d : Declared) (txt : Bytes) (m : ℕ) (opened : Bytes) (depth : ℕ) (tag : Bool) (out : Bytes) (at : ℕ)
+pub record PartRead (w : ℕ) (d : Declared) (txt : Bytes) (m : ℕ) (opened : Bytes) (depth : ℕ) (tag : Bool) (out : Bytes) (at : ℕ)
     (size m′ : ℕ) (opened′ : Bytes) (depth′ : ℕ) (tag′ : Bool) (out′ : Bytes) (at′ : ℕ) : Type 0 where
   pub made : List (Deep FlatRow)
   pub rows : rowsHere w d m opened depth tag txt ≡ withRows made (rowsHere w d m′ opened′ depth′ tag′ (drop size txt))
@@ -79,20 +79,20 @@ pub record Kept (out opened′ out′ : Bytes) : Type 0 where
   pub stack : length opened′ ≡ 256
   pub long : length out′ ≡ length out
 
--- a token is exact, and it was taken; or there are no rows
+-- a token is exact, and it was read; or there are no rows
 pub record TokenPut (w : ℕ) (d : Declared) (txt : Bytes) (m : ℕ) (opened : Bytes) (depth : ℕ) (tag : Bool) (out : Bytes) (at : ℕ)
     (exact : Bool) (size m′ : ℕ) (opened′ : Bytes) (depth′ : ℕ) (tag′ : Bool) (out′ : Bytes) (at′ : ℕ) : Type 0 where
   pub refuses : exact ≡ false → rowsHere w d m opened depth tag txt ≡ none
-  pub takes : exact ≡ true → Taken w d txt m opened depth tag out at size m′ opened′ depth′ tag′ out′ at′
+  pub reads : exact ≡ true → PartRead w d txt m opened depth tag out at size m′ opened′ depth′ tag′ out′ at′
   pub onward : exact ≡ true → 0 < size
   pub more : exact ≡ true → m′ ≤ m + 1
 
--- every token is exact up to row `limit`, or to the end of the text if that comes first, and they were taken; or there
+-- every token is exact up to row `limit`, or to the end of the text if that comes first, and they were read; or there
 -- are no rows
 pub record SomePut (w : ℕ) (d : Declared) (txt : Bytes) (m : ℕ) (opened : Bytes) (depth : ℕ) (tag : Bool) (limit : ℕ) (out : Bytes) (at : ℕ)
     (exact : Bool) (size m′ : ℕ) (opened′ : Bytes) (depth′ : ℕ) (tag′ : Bool) (out′ : Bytes) (at′ : ℕ) : Type 0 where
   pub refuses : exact ≡ false → rowsHere w d m opened depth tag txt ≡ none
-  pub takes : exact ≡ true → Taken w d txt m opened depth tag out at size m′ opened′ depth′ tag′ out′ at′
+  pub reads : exact ≡ true → PartRead w d txt m opened depth tag out at size m′ opened′ depth′ tag′ out′ at′
   pub onward : exact ≡ true → 0 < length txt → 0 < size
   pub ceiling : exact ≡ true → m′ ≤ limit
   pub ends : exact ≡ true → m′ < limit → length txt ≤ size

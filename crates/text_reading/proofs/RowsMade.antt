@@ -83,7 +83,8 @@ module _ (f : Declared) (w : ℕ) (few : length (f .definitions) ≤ 64) (fewer 
       made : List (Deep FlatRow)
       made = rowOfToken k (length opened) t
 
-      joined : (o : Option (List (Deep FlatRow))) → ((zs : List (Deep FlatRow)) → o ≡ some zs → RowsMade (k + length made) zs) → TokenFits f w opened (y ∷ ys) t → withRows made o ≡ some xs → RowsMade k xs
+      joined : (o : Option (List (Deep FlatRow))) → ((zs : List (Deep FlatRow)) → o ≡ some zs → RowsMade (k + length made) zs) → TokenFits f w opened (y ∷ ys) t
+          → withRows made o ≡ some xs → RowsMade k xs
       joined none h m q = absurd (Option·none-ne-some xs q)
       joined (some zs) h m q = subst (λ (z : List (Deep FlatRow)). RowsMade k z) (Option·some-injective (made ++ zs) xs q) (made-more k opened (y ∷ ys) t zs l m (h zs refl))
 

@@ -23,7 +23,7 @@ put-particle-line-requires c κs =
     let at-body = c .before .before in
     let start = at-body .before .before .before .before .before in
     let ready = ready-as (at-body .body .given .1) (start .pre) in
-    (ready .taken .0, ready .taken .1, particles-fit (start .args .line .now ∷ []) (ready .fits) _, ready .room)
+    (ready .asks .0, ready .asks .1, particles-fit (start .args .line .now ∷ []) (ready .fits) _, ready .room)
 
 enum-known-body-2 : tie.Need-enum-known-body-2
 enum-known-body-2 c = search needs
@@ -33,7 +33,7 @@ put-owned-requires c κs =
     let at-body2 = c .before .before in
     let start = at-body2 .before .before .before .before .before in
     let ready = ready-as (at-body2 .body2 .given .1) (start .pre) in
-    (ready .taken, omega (arith, ready .fits .definitions), omega (arith, ready .room))
+    (ready .asks, omega (arith, ready .fits .definitions), omega (arith, ready .room))
 
 same-length : tie.Need-same-length
 same-length c = search needs

@@ -1,7 +1,8 @@
--- `document_reading::judge_by` meets its contract: the invariant holds at first (`judging-start` of LoopLaws); rows that
--- are not exact or too many give the verdict (`judging-over`), and so do rows that may not come (`judging-refused`); any
--- others keep the invariant (`judging-on`) and make the text shorter; and at the end of the text `rows_end` gives the
--- verdict (`judging-ended`). What was put is said at the width that the form's bytes say (`put-at`).
+-- `document_reading::judge_by` meets its contract: the invariant holds at first (`judging-start` of LoopLaws); rows
+-- that are not exact or too many give the verdict (`judging-over`), and so do rows that may not come
+-- (`judging-refused`); any others keep the invariant (`judging-on`) and make the text shorter; and at the end of the
+-- text `rows_end` gives the verdict (`judging-ended`). What was put is said at the width that the form's bytes say
+-- (`put-at`).
 use Prim.Native.Nat.{ℕ}
 use mathlib.Core.Path.{_≡_, refl, ap, _∙_}
 use native.Mathlib.Omega.{arith}
@@ -12,7 +13,8 @@ use Rattle.store_check.specs.Check.{byIndex}
 use Rattle.document_tokens.specs.Tokens.{declaredIn}
 use Rattle.document_row_writer.specs.Putting.{documentsIn}
 use Rattle.document_reading.proofs.FormLaws.{form-room}
-use Rattle.document_reading.proofs.LoopLaws.{goes-further, Judging, judging-start, put-at, judging-over, batch-room, batch-whole, batch-size, batch-steps, judging-refused, judging-on, judging-ended}
+use Rattle.document_reading.proofs.LoopLaws.{goes-further, put-at, Judging, judging-start, judging-over, judging-refused, judging-on, judging-ended}
+use Rattle.document_reading.proofs.LoopLaws.{batch-room, batch-whole, batch-size, batch-steps}
 use borrow.Author.Needs.{needs}
 use Rattle.document_reading.proofs.judge_by.Statement.{statement}
 use Rattle.document_reading.proofs.judge_by.Tie as tie
@@ -102,7 +104,7 @@ sub-rows-come c =
     let put = put-at (at-width-in .width-in .ensures) (at-put-rows .put-rows .ensures .0) in
     let (exact, few) = goes-further (at-put-rows .put-rows .result .exact) (at-put-rows .put-rows .result .place .count) (at-if1 .if1 .left) in
     let room = batch-room (i .1) put exact (omega arith) in
-    omega (arith, put .takes exact .counted)
+    omega (arith, put .reads exact .counted)
 
 rows-come-requires : tie.Need-rows-come-requires Inv-loop μ-loop
 rows-come-requires c κs =

@@ -1,5 +1,5 @@
--- `document_reading::rows_end` meets its contract: what `end` asks of the bodies that are cut out follows from the form's
--- bytes (`cut-few`, `cut-table` of FormLaws), and what it answers is said of those bytes (`end-cut`).
+-- `document_reading::rows_end` meets its contract: what `end` asks of the bodies that are cut out follows from the
+-- form's bytes (`cut-few`, `cut-table` of FormLaws), and what it answers is said of those bytes (`end-cut`).
 use Rattle.row_step.specs.Steps.{stateOf}
 use Rattle.store_check.proofs.CallLaws.{cut-of}
 use Rattle.document_reading.proofs.FormLaws.{cut-few, cut-table, end-cut}

@@ -1,5 +1,5 @@
--- `document_row_writer::advance` meets its contract: an element opens its definition, an end tag closes the innermost, any
--- other token leaves them (`opens`, `closes`, `stays` of StackLaws).
+-- `document_row_writer::advance` meets its contract: an element opens its definition, an end tag closes the innermost,
+-- any other token leaves them (`opens`, `closes`, `stays` of StackLaws).
 use Rattle.document_row_writer.proofs.StackLaws.{opens, closes, stays}
 use borrow.Author.Needs.{needs}
 use Rattle.document_row_writer.proofs.advance.Statement.{statement}

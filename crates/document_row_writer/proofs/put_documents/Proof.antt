@@ -1,5 +1,5 @@
--- `document_row_writer::put_documents` meets its contract: up to a limit that is past the last row, all rows are written
--- (`documents-put` of PutLaws).
+-- `document_row_writer::put_documents` meets its contract: up to a limit that is past the last row, all rows are
+-- written (`documents-put` of PutLaws).
 use Rattle.document_row_writer.proofs.PutLaws.{documents-put}
 use borrow.Author.Needs.{needs}
 use Rattle.document_row_writer.proofs.put_documents.Statement.{statement}

@@ -1,5 +1,5 @@
--- `document_row_writer::put_rows` meets its contract: nothing is taken at first (`taken-none` of PutLaws), each token is
--- taken after those before it (`putting-on`) or there are no rows (`putting-refused`), and the loop ends at the end of
+-- `document_row_writer::put_rows` meets its contract: nothing is read at first (`part-none` of PutLaws), each token is
+-- read after those before it (`putting-on`) or there are no rows (`putting-refused`), and the loop ends at the end of
 -- the text or at the limit (`putting-ended`).
 use Prim.Native.Nat.{ℕ, _-_}
 use mathlib.Core.Path.{_≡_, refl, ap, _∙_}
@@ -8,7 +8,7 @@ use borrow.Author.Tests.{not-true, not-false}
 use lib.ListN.{length, length-drop, length-replicate}
 use Rattle.document_tokens.specs.Tokens.{declaredIn}
 use Rattle.document_row_writer.specs.Putting.{Kept}
-use Rattle.document_row_writer.proofs.PutLaws.{goes-on, Putting, taken-none, putting-room, putting-on, putting-refused, putting-ended}
+use Rattle.document_row_writer.proofs.PutLaws.{goes-on, Putting, part-none, putting-room, putting-on, putting-refused, putting-ended}
 use borrow.Author.Needs.{needs}
 use Rattle.document_row_writer.proofs.put_rows.Statement.{statement}
 use Rattle.document_row_writer.proofs.put_rows.Tie as tie
@@ -27,7 +27,7 @@ loop-holds : tie.Need-loop-holds Inv-loop μ-loop
 loop-holds c =
     let start = c .before .before .before in
     let p = start .pre in
-    (record { taken = taken-none (p .3); ceiling = omega arith }, record { stack = p .2; long = refl }, length-replicate {A = ℕ} 256 0)
+    (record { part = part-none (p .3); ceiling = omega arith }, record { stack = p .2; long = refl }, length-replicate {A = ℕ} 256 0)
 
 after-requires : tie.Need-after-requires Inv-loop μ-loop
 after-requires c κs = search needs
@@ -47,7 +47,7 @@ put-token-requires c κs =
       p .0,
       p .1,
       i .1 .stack,
-      i .0 .taken .deep,
+      i .0 .part .deep,
       omega (arith, p .5, few),
       omega (arith, unread, ap length (at-after .after .ensures), length-drop (at-loop .loop .size) (start .args .text .now)),
       omega (arith, p .0, i .2),
@@ -91,9 +91,9 @@ add-size c =
     let start = at-loop .before .before .before .before in
     let i = at-loop .loop .inv in
     let put = at-put-token .put-token .ensures in
-    let taken = put .0 .takes (not-false _ (at-if2 .if2 .left)) in
+    let part = put .0 .reads (not-false _ (at-if2 .if2 .left)) in
     let known = start .good .1 .1 .1 .1 .1 .0 .0 in
-    omega (arith, known, taken .within, i .0 .taken .within, ap length (at-after .after .ensures), length-drop (at-loop .loop .size) (start .args .text .now))
+    omega (arith, known, part .within, i .0 .part .within, ap length (at-after .after .ensures), length-drop (at-loop .loop .size) (start .args .text .now))
 
 loop-less : tie.Need-loop-less Inv-loop μ-loop
 loop-less c =
@@ -106,7 +106,7 @@ loop-less c =
     let i = at-loop .loop .inv in
     let put = at-put-token .put-token .ensures in
     let exact = not-false (at-put-token .put-token .result .exact) (at-if2 .if2 .left) in
-    omega (arith, put .0 .onward exact, put .0 .takes exact .within, ap length (at-after .after .ensures), length-drop (at-loop .loop .size) (start .args .text .now))
+    omega (arith, put .0 .onward exact, put .0 .reads exact .within, ap length (at-after .after .ensures), length-drop (at-loop .loop .size) (start .args .text .now))
 
 loop-again : tie.Need-loop-again Inv-loop μ-loop
 loop-again c =

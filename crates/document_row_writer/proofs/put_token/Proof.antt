@@ -1,5 +1,6 @@
--- `document_row_writer::put_token` meets its contract: a token that is not exact is refused (`token-refused` of PutLaws),
--- any other is taken (`token-put`). Its numbers are small (`index-small`, `value-fits`, `opens-more` of AfterLaws).
+-- `document_row_writer::put_token` meets its contract: a token that is not exact is refused (`token-refused` of
+-- PutLaws), any other is read (`token-put`). Its numbers are small (`index-small`, `value-fits`, `opens-more` of
+-- AfterLaws).
 use mathlib.Core.Path.{refl, sym, _∙_}
 use native.Mathlib.Omega.{arith}
 use borrow.Author.Tests.{not-true, not-false}

@@ -34,7 +34,8 @@ use Rattle.document_laws.specs.Declares.{Declares}
 use Rattle.document_laws.proofs.RowsTextLaws.{Follows, text-end, text-start, text-element, text-attribute, text-content, text-stops}
 use Rattle.document_laws.proofs.ForestText.{shallow-root}
 use Rattle.document_laws.proofs.TokenText.{place-name, attribute-name}
-use Rattle.document_laws.proofs.Steps.{with-none, with-append, element-read, attribute-read, text-read, start-read, end-split, end-read, none-read}
+use Rattle.document_tokens.proofs.TokenLaws.{with-none, with-append}
+use Rattle.document_laws.proofs.Steps.{element-read, attribute-read, text-read, start-read, end-split, end-read, none-read}
 use Rattle.declaration_scan.proofs.Laws.{place-index}
 use Rattle.document_laws.proofs.Places.{kind-index, InTable, attribute-among}
 use Rattle.document_laws.proofs.Kids.{Kids, attribute-kid, text-kid, start-ended, no-kid, element-kid, element-rows}

@@ -21,16 +21,8 @@ use Rattle.text_scan.proofs.ScanLaws.{leading-of, trailing-of, escape-quoted, e
 use Rattle.reading_rules.proofs.Models.{NameStops, leading-name, trailing-name, startsWith-more, startsWith-name}
 use Rattle.declaration_scan.specs.Declared.{placeAmong}
 use Rattle.document_tokens.specs.Tokens.{Declared, declaredNames, kindOfDefinition, attributeAmong, Token, shortValue, elementToken, textToken, startEndToken, endTag, endToken, noToken, tokenAt}
+use Rattle.document_tokens.proofs.TokenLaws.{with-none}
 use Rattle.document_tokens.specs.Tokens.{rowOfToken, openAfter, tagAfter, withRows, documentRows}
-
--- ---- rows put together
-pub with-none : (o : Option (List (Deep FlatRow))) → withRows [] o ≡ o
-with-none none = refl
-with-none (some ys) = refl
-
-pub with-append : (a b : List (Deep FlatRow)) (o : Option (List (Deep FlatRow))) → withRows a (withRows b o) ≡ withRows (a ++ b) o
-with-append a b none = refl
-with-append a b (some ys) = ap (λ (z : List (Deep FlatRow)). some z) (sym (append-assoc a b ys))
 
 second : {A : Type 0} (b c : Bool) (x y z : A) → b ≡ false → c ≡ true → elim b [ true ↦ x | false ↦ elim c [ true ↦ y | false ↦ z ] ] ≡ y
 second b c x y z p q = rw (p, q)

@@ -1,6 +1,6 @@
 -- The verdict on rows, some of them at a time.
 use mathlib.Core.Path.{_≡_, refl, sym, ap, ap₂, _∙_}
-use mathlib.Core.Bool.{Bool, true, false, _&&_, false≢true}
+use mathlib.Core.Bool.{Bool, true, false, _&&_, false≢true, and-false}
 use mathlib.Core.Option.{Option, none, some}
 use mathlib.Core.List.{List, [], _∷_, _++_, append-assoc}
 use Prim.Native.Nat.{ℕ, suc, _+_, _*_, _<_, _≤_}
@@ -59,10 +59,6 @@ module _ (w : ℕ) (f : IndexForm) where
       (λ i. walk w f (length-append xs ys i) (each-append (rowBytes w) xs ys i) (some s)) ∙ walk-each xs (length ys) (each (rowBytes w) ys) (some s) in
       λ i. leb (many i) 4096 && stateEnds f (walked i)
 
-  and-none : (b : Bool) → (b && false) ≡ false
-  and-none true = refl
-  and-none false = refl
-
   gone : (o : Option State) → isThere o ≡ false → o ≡ none
   gone none e = refl
   gone (some s) e = absurd (false≢true (sym e))
@@ -76,7 +72,7 @@ module _ (w : ℕ) (f : IndexForm) where
         let all = ap (walk w f (length ys) (each (rowBytes w) ys)) first ∙ walk-none w f (length ys) (each (rowBytes w) ys) in
         fit-more m (stateOf s live) xs ys
         ∙ ap (λ (z : Option State). leb (m + length xs + length ys) 4096 && stateEnds f z) all
-        ∙ and-none (leb (m + length xs + length ys) 4096)
+        ∙ and-false (leb (m + length xs + length ys) 4096)
 
     -- they may: what is left is judged from the state after them
     pub fit-after : (m : ℕ) (o : Option (List (Deep FlatRow))) → answer ≡ true → fitFrom w f m (stateOf s live) (withRows xs o) ≡ fitFrom w f (m + length xs) (stateOf s′ live′) o

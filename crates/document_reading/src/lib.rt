@@ -102,14 +102,14 @@ fn judge_by(form: &[u8], table: &[u64], text: &[u8]) -> Judged
     let mut live = 1;
     let mut opened = [0; 256];
     let mut rows = [0; BATCH_BYTES];
-    let mut place = document_row_writer::start();
+    let mut here = document_row_writer::start();
     let mut t = text;
     while 0 < t.len() {
-        let before = place.count;
+        let before = here.count;
         let most = before + BATCH;
-        let put = document_row_writer::put_rows(w, form, &mut opened, place, most, t, &mut rows, 0);
-        place = put.place;
-        if !put.exact | (layout::MAX_ROWS < place.count) {
+        let put = document_row_writer::put_rows(w, form, &mut opened, here, most, t, &mut rows, 0);
+        here = put.progress;
+        if !put.exact | (layout::MAX_ROWS < here.count) {
             return verdict(false, 0);
         }
         let end = put.at;
@@ -120,7 +120,7 @@ fn judge_by(form: &[u8], table: &[u64], text: &[u8]) -> Judged
             &mut levels,
             &mut live,
             read,
-            place.count - before,
+            here.count - before,
         ) {
             return verdict(false, 0);
         }
@@ -128,7 +128,7 @@ fn judge_by(form: &[u8], table: &[u64], text: &[u8]) -> Judged
         t = rest;
     }
     let ends = rows_end(form, table, &levels, live);
-    verdict((place.depth == 0) & ends, place.count)
+    verdict((here.depth == 0) & ends, here.count)
 }
 
 /// Judges the documents of a text by a form that passes.

@@ -2,7 +2,7 @@
 use mathlib.Core.Path.{_≡_, refl, sym, ap, _∙_}
 use mathlib.Core.Bool.{Bool, true, false, _&&_, _||_, false≢true}
 use mathlib.Core.Option.{Option, none, some}
-use mathlib.Core.List.{List, [], _∷_, _++_, append-nil, append-assoc}
+use mathlib.Core.List.{List, [], _∷_, _++_, append-nil}
 use Prim.Native.Nat.{ℕ, _+_, _*_, _<_, _≤_}
 use native.Mathlib.Omega.{arith}
 use native.Mathlib.Nat.{add-zero}
@@ -23,7 +23,7 @@ use Rattle.layout.specs.Bodies.{Width}
 use Rattle.layout.specs.RowBytes.{rowOf, RowLaid}
 use Rattle.document_tokens.specs.Tokens.{Declared, declaredIn, Token, tokenAt, withRows}
 use Rattle.document_tokens.specs.Telling.{stackOf, Tells, TokenTold}
-use Rattle.document_tokens.proofs.TokenLaws.{token-fits}
+use Rattle.document_tokens.proofs.TokenLaws.{token-fits, with-none, with-append}
 use Rattle.document_row_writer.specs.Putting.{documentsIn, rowsOr, RowsRead, rowsHere, madeRow, madeCount, Advanced, RowsPut, Starts, PartRead, TokenPut, SomePut}
 use Rattle.document_row_writer.proofs.RowLaws.{rows-refused, rows-ended}
 use Rattle.document_row_writer.proofs.AfterLaws.{made-many, made-few, rows-made, made-counted, rows-left}
@@ -36,22 +36,13 @@ module _ (w : ℕ) {sort : ℕ} (depth index serial : ℕ) (v : Bytes) {out : By
   pub puts-row : {r : ℕ} {out′ : Bytes} → Width w → (sort ≡ 0 → ⊥) → RowLaid w (rowOf sort depth index serial v) out at r out′ → RowsPut w (madeRow sort depth index serial v) out at r out′
   puts-row h e p = rw (ne-eqb sort 0 e, madeRow) (record { laid = laid-as (append-nil (rowBytes w (rowOf sort depth index serial v))) (p .laid); small = omega (arith, p .next) })
 
--- ---- rows and those after them
-rows-none : (o : Option (List (Deep FlatRow))) → o ≡ withRows [] o
-rows-none none = refl
-rows-none (some ys) = refl
-
-rows-twice : (xs ys : List (Deep FlatRow)) (o : Option (List (Deep FlatRow))) → withRows xs (withRows ys o) ≡ withRows (xs ++ ys) o
-rows-twice xs ys none = refl
-rows-twice xs ys (some zs) = ap (λ (l : List (Deep FlatRow)). some l) (sym (append-assoc xs ys zs))
-
 -- ---- what was read of a text
 pub part-none : {w : ℕ} {d : Declared} {txt : Bytes} {m : ℕ} {opened : Bytes} {depth : ℕ} {tag : Bool} {out : Bytes} {at : ℕ} → depth ≤ 255
     → PartRead w d txt m opened depth tag out at 0 m opened depth tag out at
 part-none {w} {d} {txt} {m} {opened} {depth} {tag} h =
     record {
       made = [];
-      rows = rows-none (rowsHere w d m opened depth tag txt);
+      rows = sym (with-none (rowsHere w d m opened depth tag txt));
       put = record { laid = laid-none; small = omega arith };
       counted = add-zero m;
       few = omega arith;
@@ -73,7 +64,7 @@ module _ {w : ℕ} {d : Declared} {txt : Bytes} {m : ℕ} {opened : Bytes} {dept
       ap (rowsHere w d m₁ opened₁ depth₁ tag₁) (sym e) ∙ q .rows ∙ ap (λ (u : Bytes). withRows ys (rowsHere w d m₂ opened₂ depth₂ tag₂ u)) left in
       record {
         made = xs ++ ys;
-        rows = p .rows ∙ ap (withRows xs) rest ∙ rows-twice xs ys (rowsHere w d m₂ opened₂ depth₂ tag₂ (drop (size + more) txt));
+        rows = p .rows ∙ ap (withRows xs) rest ∙ with-append xs ys (rowsHere w d m₂ opened₂ depth₂ tag₂ (drop (size + more) txt));
         put =
             record {
               laid = laid-as (each-append (rowBytes w) xs ys) (laid-then (p .put .laid) (q .put .laid));

@@ -57,17 +57,17 @@ fn put_made(
 // ---- rows, token by token
 
 /// Where documents go on: how many definitions are opened, whether a start tag is not ended, how many rows came before.
-pub struct Place {
+pub struct Progress {
     pub depth: usize,
     pub tag: bool,
     pub count: usize,
 }
 
 /// Where documents begin.
-pub fn start() -> Place
+pub fn start() -> Progress
     ensures { λ r. ⌜ Starts (r .depth) (r .tag) (r .count) ⌝ }
 {
-    Place {
+    Progress {
         depth: 0,
         tag: false,
         count: 0,
@@ -79,7 +79,7 @@ pub fn start() -> Place
 pub struct Written {
     pub exact: bool,
     pub size: usize,
-    pub place: Place,
+    pub progress: Progress,
     pub at: usize,
 }
 
@@ -90,7 +90,7 @@ fn inexact() -> Written
     Written {
         exact: false,
         size: 0,
-        place: start(),
+        progress: start(),
         at: 0,
     }
 }
@@ -100,21 +100,21 @@ fn put_token(
     w: usize,
     form: &[u8],
     opened: &mut [u8; 256],
-    place: Place,
+    progress: Progress,
     text: &[u8],
     value: &mut [u8],
     out: &mut [u8],
     at: usize,
 ) -> Written
-    requires { ⌜ Width w × FormRoom (now form) × (length (now opened) ≡ 256) × (place .depth ≤ 255) × (place .count ≤ 8192) × (0 < length (now text))
+    requires { ⌜ Width w × FormRoom (now form) × (length (now opened) ≡ 256) × (progress .depth ≤ 255) × (progress .count ≤ 8192) × (0 < length (now text))
         × (w ≤ length (now value)) × (at < 4611686018429575168) ⌝ }
-    ensures { λ r. ⌜ TokenPut w (declaredIn (now (form .entry))) (now (text .entry)) (place .count) (now (opened .entry)) (place .depth) (place .tag) (now (out .entry)) at
-        (r .exact) (r .size) (r .place .count) (now (opened .exit)) (r .place .depth) (r .place .tag) (now (out .exit)) (r .at)
+    ensures { λ r. ⌜ TokenPut w (declaredIn (now (form .entry))) (now (text .entry)) (progress .count) (now (opened .entry)) (progress .depth) (progress .tag) (now (out .entry)) at
+        (r .exact) (r .size) (r .progress .count) (now (opened .exit)) (r .progress .depth) (r .progress .tag) (now (out .exit)) (r .at)
         × Kept (now (out .entry)) (now (opened .exit)) (now (out .exit)) × (length (now (value .exit)) ≡ length (now (value .entry))) ⌝ }
 {
-    let depth = place.depth;
-    let tag = place.tag;
-    let count = place.count;
+    let depth = progress.depth;
+    let tag = progress.tag;
+    let count = progress.count;
     let token = document_tokens::token_at(w, form, text, opened, depth, tag, value);
     if !token.exact {
         return inexact();
@@ -123,7 +123,7 @@ fn put_token(
     let index = token.index;
     let read = codec::first(value, token.length);
     let next = put_made(w, sort, depth, index, count + 1, read, out, at);
-    let place = Place {
+    let progress = Progress {
         depth: advance(opened, depth, tag, sort, index),
         tag: (sort == 1) | (sort == 2),
         count: count + made(sort),
@@ -131,29 +131,29 @@ fn put_token(
     Written {
         exact: true,
         size: token.size,
-        place,
+        progress,
         at: next,
     }
 }
 
-/// Reads the documents of a text from a place on up to row `limit`, and writes their rows.
+/// Goes on reading the documents of a text up to row `limit`, and writes their rows.
 pub fn put_rows(
     w: usize,
     form: &[u8],
     opened: &mut [u8; 256],
-    place: Place,
+    progress: Progress,
     limit: usize,
     text: &[u8],
     out: &mut [u8],
     at: usize,
 ) -> Written
-    requires { ⌜ Width w × FormRoom (now form) × (length (now opened) ≡ 256) × (place .depth ≤ 255) × (place .count < limit) × (limit ≤ 8192) × (at < 4611686018427387904) ⌝ }
-    ensures { λ r. ⌜ SomePut w (declaredIn (now (form .entry))) (now (text .entry)) (place .count) (now (opened .entry)) (place .depth) (place .tag) limit (now (out .entry)) at
-        (r .exact) (r .size) (r .place .count) (now (opened .exit)) (r .place .depth) (r .place .tag) (now (out .exit)) (r .at)
+    requires { ⌜ Width w × FormRoom (now form) × (length (now opened) ≡ 256) × (progress .depth ≤ 255) × (progress .count < limit) × (limit ≤ 8192) × (at < 4611686018427387904) ⌝ }
+    ensures { λ r. ⌜ SomePut w (declaredIn (now (form .entry))) (now (text .entry)) (progress .count) (now (opened .entry)) (progress .depth) (progress .tag) limit (now (out .entry)) at
+        (r .exact) (r .size) (r .progress .count) (now (opened .exit)) (r .progress .depth) (r .progress .tag) (now (out .exit)) (r .at)
         × Kept (now (out .entry)) (now (opened .exit)) (now (out .exit)) ⌝ }
 {
     let mut value = [0; 256];
-    let mut here = place;
+    let mut here = progress;
     let mut next = at;
     let mut size = 0;
     while (size < text.len()) & (here.count < limit) {
@@ -162,14 +162,14 @@ pub fn put_rows(
         if !put.exact {
             return inexact();
         }
-        here = put.place;
+        here = put.progress;
         next = put.at;
         size += put.size;
     }
     Written {
         exact: true,
         size,
-        place: here,
+        progress: here,
         at: next,
     }
 }
@@ -180,12 +180,12 @@ pub fn put_documents(w: usize, form: &[u8], text: &[u8], out: &mut [u8], at: usi
     ensures { λ r. ⌜ Laid (each (rowBytes w) (rowsOr (documentsIn w (now (form .entry)) (now (text .entry))))) (now (out .entry)) at r (now (out .exit)) ⌝ }
 {
     let mut opened = [0; 256];
-    let place = start();
+    let progress = start();
     let put = put_rows(
         w,
         form,
         &mut opened,
-        place,
+        progress,
         layout::MAX_ROWS + 1,
         text,
         out,

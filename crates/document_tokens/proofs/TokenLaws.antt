@@ -2,18 +2,20 @@
 use mathlib.Core.Path.{_≡_, refl, sym, ap, _∙_}
 use mathlib.Core.Bool.{Bool, true, false, _&&_, false≢true}
 use mathlib.Core.Option.{Option, none, some}
-use mathlib.Core.List.{List, [], _∷_, _++_}
+use mathlib.Core.List.{List, [], _∷_, _++_, append-assoc}
 use Prim.Native.Nat.{ℕ, zero, suc, _+_, _-_, _<_, _≤_}
 use native.Mathlib.Omega.{arith}
 use borrow.Author.Tests.{leb-true, ltb-true}
 use lib.Dec.{eqb, ltb}
 use lib.ListN.{length, drop, length-append, length-drop}
 use Rattle.rules.specs.Bytes.{Bytes, ascii, eqb-eq}
+use Rattle.rules.specs.Preorder.{Deep}
+use Rattle.rules.specs.Layout.{FlatRow}
 use Rattle.rules.specs.WellFormed.{inName}
 use Rattle.rules.proofs.Words.{and-split}
 use Rattle.text_scan.specs.Scan.{firstByte, startsWith, frontWhile, afterWhile, noQuote, noTag, unescaped, valueOr}
 use Rattle.text_scan.proofs.ScanLaws.{leading-trailing, starts-long}
-use Rattle.document_tokens.specs.Tokens.{Declared, Token, kindOfDefinition, shortValue, elementToken, attributeToken, textToken, startEndToken, endTag, endToken, noToken, tagToken, tokenAt}
+use Rattle.document_tokens.specs.Tokens.{Declared, Token, kindOfDefinition, shortValue, elementToken, attributeToken, textToken, startEndToken, endTag, endToken, noToken, tagToken, tokenAt, withRows}
 
 -- ---- fronts
 pub leading-short : (p : ℕ → Bool) (txt : Bytes) → length (frontWhile p txt) + length (afterWhile p txt) ≡ length txt
@@ -134,3 +136,12 @@ token-fits f w opened false txt = by (startsWith (ascii "</") txt) (ltb (length 
     by true b d (o ∷ others) e = end-fits f w opened txt o (length others) e
     by false true d l e = element-fits f w opened txt (ltb-true _ _ d) e
     by false false d l e = absurd (false≢true e)
+
+-- ---- rows put together
+pub with-none : (o : Option (List (Deep FlatRow))) → withRows [] o ≡ o
+with-none none = refl
+with-none (some ys) = refl
+
+pub with-append : (a b : List (Deep FlatRow)) (o : Option (List (Deep FlatRow))) → withRows a (withRows b o) ≡ withRows (a ++ b) o
+with-append a b none = refl
+with-append a b (some ys) = ap (λ (z : List (Deep FlatRow)). some z) (sym (append-assoc a b ys))

@@ -21,12 +21,12 @@ use Rattle.document_reading.proofs.judge_by.Tie as tie
 
 -- the rows of the text that is left, judged from this state on, give the verdict; the array of rows keeps its length
 abbrev Inv-loop : tie.InvT-loop
-Inv-loop form table text w levels₀ live₀ opened₀ rows₀ place₀ t₀ levels live opened rows place t =
+Inv-loop form table text w levels₀ live₀ opened₀ rows₀ here₀ t₀ levels live opened rows here t =
     (length rows ≡ 4272)
-    × Judging (widthOf form) (byIndex form) (declaredIn form) (documentsIn (widthOf form) form text) levels live opened (place .depth) (place .tag) (place .count) t
+    × Judging (widthOf form) (byIndex form) (declaredIn form) (documentsIn (widthOf form) form text) levels live opened (here .depth) (here .tag) (here .count) t
 
 abbrev μ-loop : tie.MeasureT-loop
-μ-loop form table text w levels₀ live₀ opened₀ rows₀ place₀ t₀ levels live opened rows place t = length t
+μ-loop form table text w levels₀ live₀ opened₀ rows₀ here₀ t₀ levels live opened rows here t = length t
 
 width-in-requires : tie.Need-width-in-requires Inv-loop μ-loop
 width-in-requires c κs = search needs
@@ -76,7 +76,7 @@ array-share-prefix-rows c =
     let start = at-width-in .before .before .before .before in
     let i = at-loop .loop .inv in
     let put = put-at (at-width-in .width-in .ensures) (at-put-rows .put-rows .ensures .0) in
-    let (exact, few) = goes-further (at-put-rows .put-rows .result .exact) (at-put-rows .put-rows .result .place .count) (at-if1 .if1 .left) in
+    let (exact, few) = goes-further (at-put-rows .put-rows .result .exact) (at-put-rows .put-rows .result .progress .count) (at-if1 .if1 .left) in
     let room = batch-room (i .1) put exact (omega arith) in
     omega (arith, at-put-rows .put-rows .ensures .1 .long, i .0, room)
 
@@ -89,7 +89,7 @@ slice-aggregate-read c =
     let start = at-width-in .before .before .before .before in
     let i = at-loop .loop .inv in
     let put = put-at (at-width-in .width-in .ensures) (at-put-rows .put-rows .ensures .0) in
-    let (exact, few) = goes-further (at-put-rows .put-rows .result .exact) (at-put-rows .put-rows .result .place .count) (at-if1 .if1 .left) in
+    let (exact, few) = goes-further (at-put-rows .put-rows .result .exact) (at-put-rows .put-rows .result .progress .count) (at-if1 .if1 .left) in
     let room = batch-room (i .1) put exact (omega arith) in
     batch-whole (i .1) put exact (omega (arith, i .0))
 
@@ -102,7 +102,7 @@ sub-rows-come c =
     let start = at-width-in .before .before .before .before in
     let i = at-loop .loop .inv in
     let put = put-at (at-width-in .width-in .ensures) (at-put-rows .put-rows .ensures .0) in
-    let (exact, few) = goes-further (at-put-rows .put-rows .result .exact) (at-put-rows .put-rows .result .place .count) (at-if1 .if1 .left) in
+    let (exact, few) = goes-further (at-put-rows .put-rows .result .exact) (at-put-rows .put-rows .result .progress .count) (at-if1 .if1 .left) in
     let room = batch-room (i .1) put exact (omega arith) in
     omega (arith, put .reads exact .counted)
 
@@ -115,7 +115,7 @@ rows-come-requires c κs =
     let start = at-width-in .before .before .before .before in
     let i = at-loop .loop .inv in
     let put = put-at (at-width-in .width-in .ensures) (at-put-rows .put-rows .ensures .0) in
-    let (exact, few) = goes-further (at-put-rows .put-rows .result .exact) (at-put-rows .put-rows .result .place .count) (at-if1 .if1 .left) in
+    let (exact, few) = goes-further (at-put-rows .put-rows .result .exact) (at-put-rows .put-rows .result .progress .count) (at-if1 .if1 .left) in
     let room = batch-room (i .1) put exact (omega arith) in
     (start .pre .0, start .pre .1, batch-size (i .1) put exact refl (omega (arith, i .0)), i .1 .long, i .1 .low)
 
@@ -132,7 +132,7 @@ returns-2 c =
     let start = at-width-in .before .before .before .before in
     let i = at-loop .loop .inv in
     let put = put-at (at-width-in .width-in .ensures) (at-put-rows .put-rows .ensures .0) in
-    let (exact, few) = goes-further (at-put-rows .put-rows .result .exact) (at-put-rows .put-rows .result .place .count) (at-if1 .if1 .left) in
+    let (exact, few) = goes-further (at-put-rows .put-rows .result .exact) (at-put-rows .put-rows .result .progress .count) (at-if1 .if1 .left) in
     let room = batch-room (i .1) put exact (omega arith) in
     let made = batch-steps (i .1) put exact refl (omega (arith, i .0)) refl (at-rows-come .rows-come .ensures) in
     judging-refused (i .1) put exact made (not-true _ (c .before .if2 .taken)) (c .verdict2 .ensures .0)
@@ -149,7 +149,7 @@ loop-less c =
     let start = at-width-in .before .before .before .before in
     let i = at-loop .loop .inv in
     let put = put-at (at-width-in .width-in .ensures) (at-put-rows .put-rows .ensures .0) in
-    let (exact, few) = goes-further (at-put-rows .put-rows .result .exact) (at-put-rows .put-rows .result .place .count) (at-if1 .if1 .left) in
+    let (exact, few) = goes-further (at-put-rows .put-rows .result .exact) (at-put-rows .put-rows .result .progress .count) (at-if1 .if1 .left) in
     let room = batch-room (i .1) put exact (omega arith) in
     let unread = at-put-rows .before .before .before .loop-test .taken in
     omega (arith, ap length (c .after .ensures), length-drop (at-put-rows .put-rows .result .size) (at-loop .loop .t .now), put .onward exact unread)
@@ -164,7 +164,7 @@ loop-again c =
     let start = at-width-in .before .before .before .before in
     let i = at-loop .loop .inv in
     let put = put-at (at-width-in .width-in .ensures) (at-put-rows .put-rows .ensures .0) in
-    let (exact, few) = goes-further (at-put-rows .put-rows .result .exact) (at-put-rows .put-rows .result .place .count) (at-if1 .if1 .left) in
+    let (exact, few) = goes-further (at-put-rows .put-rows .result .exact) (at-put-rows .put-rows .result .progress .count) (at-if1 .if1 .left) in
     let room = batch-room (i .1) put exact (omega arith) in
     let kept = at-put-rows .put-rows .ensures .1 in
     let made = batch-steps (i .1) put exact refl (omega (arith, i .0)) refl (at-rows-come .rows-come .ensures) in

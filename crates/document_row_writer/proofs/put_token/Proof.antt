@@ -32,7 +32,7 @@ returns c =
     let a = start .args in
     let p = start .pre in
     let told = at-token-at .token-at .ensures in (
-      token-refused (a .w) (declaredIn (a .form .now)) (a .text .now) (a .place .count) (a .opened .now) (a .place .depth) (a .place .tag) (p .5) told
+      token-refused (a .w) (declaredIn (a .form .now)) (a .text .now) (a .progress .count) (a .opened .now) (a .progress .depth) (a .progress .tag) (p .5) told
           (not-true _ (at-if1 .if1 .taken)) (c .inexact .ensures),
       record { stack = p .2; long = refl },
       told .long,
@@ -54,7 +54,7 @@ put-made-requires c κs =
     let exact = not-false _ (at-if1 .if1 .left) in
     let told = at-token-at .token-at .ensures .told exact in
     let is-exact = sym (at-token-at .token-at .ensures .is) ∙ exact in
-    let fits = token-fits (declaredIn (a .form .now)) (a .w) (stackOf (a .place .depth) (a .opened .now)) (a .place .tag) (a .text .now) is-exact in
+    let fits = token-fits (declaredIn (a .form .now)) (a .w) (stackOf (a .progress .depth) (a .opened .now)) (a .progress .tag) (a .text .now) is-exact in
     let at-first = c .before in (
       p .0,
       p .7,
@@ -73,11 +73,11 @@ advance-requires c κs =
     let exact = not-false _ (at-if1 .if1 .left) in
     let told = at-token-at .token-at .ensures .told exact in
     let is-exact = sym (at-token-at .token-at .ensures .is) ∙ exact in
-    let fits = token-fits (declaredIn (a .form .now)) (a .w) (stackOf (a .place .depth) (a .opened .now)) (a .place .tag) (a .text .now) is-exact in (
+    let fits = token-fits (declaredIn (a .form .now)) (a .w) (stackOf (a .progress .depth) (a .opened .now)) (a .progress .tag) (a .text .now) is-exact in (
       p .2,
       p .3,
       index-small (a .form .now) fits told (p .1 .definitions-few) (p .1 .attributes-few),
-      opens-more (a .form .now) fits told (stack-size (a .place .depth) (a .opened .now)),
+      opens-more (a .form .now) fits told (stack-size (a .progress .depth) (a .opened .now)),
     )
 
 made-requires : tie.Need-made-requires
@@ -108,9 +108,9 @@ returns-2 c =
     let exact = not-false _ (at-if1 .if1 .left) in
     let told = at-token-at .token-at .ensures .told exact in
     let is-exact = sym (at-token-at .token-at .ensures .is) ∙ exact in
-    let fits = token-fits (declaredIn (a .form .now)) (a .w) (stackOf (a .place .depth) (a .opened .now)) (a .place .tag) (a .text .now) is-exact in
+    let fits = token-fits (declaredIn (a .form .now)) (a .w) (stackOf (a .progress .depth) (a .opened .now)) (a .progress .tag) (a .text .now) is-exact in
     let adv = at-advance .advance .ensures in (
-      token-put (a .w) (declaredIn (a .form .now)) (a .text .now) (a .place .count) (a .opened .now) (a .place .depth) (a .place .tag) (p .5) is-exact told
+      token-put (a .w) (declaredIn (a .form .now)) (a .text .now) (a .progress .count) (a .opened .now) (a .progress .depth) (a .progress .tag) (p .5) is-exact told
           (at-first .first .ensures) (at-put-made .put-made .ensures) adv refl (omega (arith, c .made .ensures)) refl,
       record { stack = adv .long; long = laid-long (at-put-made .put-made .ensures .laid) },
       at-token-at .token-at .ensures .long,

@@ -76,7 +76,7 @@ fn texts_that_no_store_prints() {
 }
 
 /// Lists of every length up to forty finishers, and lists of forty with a fault in each of them in turn: the library
-/// judges rows some at a time, and no row may be passed over or judged twice where one lot ends.
+/// judges rows in batches, and no row may be passed over or judged twice where one ends.
 #[test]
 fn a_fault_at_every_finisher() {
     const FINISHER: &str = "<finisher><bib>7</bib><time>19:04</time></finisher>";

@@ -26,7 +26,7 @@ use Rattle.change_laws.proofs.FormLaws.{attribute-owned, owner-found, owner-at,
 use Rattle.change_laws.proofs.StandingLaws.{standing-every, found-element, children-are, children-given}
 use Rattle.form_index.specs.Indices.{IndexForm}
 use Rattle.layout.specs.Bodies.{widthOf, WidthIn, attributesIn}
-use Rattle.form_index.specs.Reading.{attributeIn}
+use Rattle.form_index.specs.Reading.{attributeIn, byIndex}
 use Rattle.store_check.proofs.IndexLaws.{known-index, index-once}
 use Rattle.store_check.proofs.AttributeBlocks.{Entry, Block, offset}
 use Rattle.store_check.proofs.AttributeRows.{rowWritten, index-written}
@@ -39,7 +39,6 @@ use Rattle.attribute_row_refusals.specs.Refused.{AttributeRefused}
 use Rattle.document_rows.specs.Finding.{rowIn, childrenAt}
 use Rattle.change_laws.specs.FirstCondition.{Gives}
 use Rattle.document_rows.proofs.TreeLaws.{ofSort}
-use Rattle.store_check.specs.Check.{byIndex}
 use Rattle.store_check.proofs.StoreFacts.{formIn, docsIn, Whole, bad-text, fine-text}
 use Rattle.document_rows.proofs.ElementFacts.{Element, NoElement, defined, children-at, any-found, element-conforms}
 use Rattle.document_refusals.proofs.ElementsAfter.{ok}

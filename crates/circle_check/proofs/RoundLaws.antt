@@ -163,6 +163,19 @@ unfolding deepIndex
 deep-past members n zero i l = refl
 deep-past members n (suc h) i l = rw (le-ltb i n l)
 
+-- members that are the same for each of the n definitions have the same chains
+pub deep-index-same : (members others : ℕ → List ℕ) (n : ℕ) → ((i : ℕ) → i < n → members i ≡ others i) → (h i : ℕ) → deepIndex members n h i ≡ deepIndex others n h i
+unfolding deepIndex
+deep-index-same members others n same zero i = refl
+deep-index-same members others n same (suc h) i = by (ltb i n) refl (λ j. deep-index-same members others n same h j)
+  where
+    by : (b : Bool) → ltb i n ≡ b → ((j : ℕ) → deepIndex members n h j ≡ deepIndex others n h j) → deepIndex members n (suc h) i ≡ deepIndex others n (suc h) i
+    by true e more =
+        let l : i < n = ltb-true i n e in
+        deep-known members n h i l ∙ all-same (λ j. deepIndex members n h j) (λ j. deepIndex others n h j) (members i) more
+        ∙ ap (λ (xs : List ℕ). all (λ j. deepIndex others n h j) xs) (same i l) ∙ sym (deep-known others n h i l)
+    by false e more = deep-past members n (suc h) i (ltb-false i n e) ∙ sym (deep-past others n (suc h) i (ltb-false i n e))
+
 pub rounds-on : {n : ℕ} {members : ℕ → List ℕ} {old l : Bytes} {r : ℕ} → Rounds n members old r → r < n → Round n members (r + 1) old l → Rounds n members l (r + 1)
 rounds-on {n} {members} {old} {l} {r} s g f = rw (add-one r) (record { is = λ i h q. is i h q (ltb i n) refl; most = λ i. most i (ltb i n) refl; low = g })
   where

@@ -27,7 +27,7 @@ use Rattle.store_check.proofs.IndexLaws.{name-of}
 use Rattle.store_laws.specs.Stores.{storeIn}
 use Rattle.document_rows.specs.Finding.{ParentAt, childrenAt, modelAt, rowDefinitionKind, fitsAt, hasPlace, serialIn, word}
 use Rattle.change_laws.specs.FirstCondition.{Gives}
-use Rattle.store_check.specs.Check.{byIndex}
+use Rattle.form_index.specs.Reading.{byIndex}
 use Rattle.store_check.proofs.StoreFacts.{formIn, docsIn, Whole}
 use Rattle.document_rows.proofs.ElementFacts.{Element, NoElement, Parent, parent-there, parent-absent, defined, elements-at, serials-at}
 use Rattle.document_refusals.proofs.ElementTests.{putAt}

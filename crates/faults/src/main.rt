@@ -1,11 +1,8 @@
 //! Checks the store that clubform leaves and one with groups and attributes, each with every kind of fault in turn, and
 //! prints each answer: 0 passes, 1 does not.
+use sample_stores::CLUB;
+use sample_stores::LEGS;
 ghost use Prim.Native.Nat.{_<_};
-
-mod stores;
-
-use stores::CLUB;
-use stores::LEGS;
 
 fn tell_check(what: &[u8], number: u32) {
     play::tell(what);

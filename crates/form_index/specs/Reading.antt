@@ -4,9 +4,11 @@ use mathlib.Core.List.{[]}
 use lib.ListN.{take, drop}
 use Rattle.rules.specs.Bytes.{Bytes}
 use Rattle.rules.specs.Layout.{definitionSize, particleSize, attributeSize, FlatDefinition, FlatAttribute}
-use Rattle.rules.specs.Decode.{readDefinition, readAttribute, sortOf}
+use Rattle.rules.specs.Decode.{numberAt, definitionCount, attributeCount, readDefinition, readAttribute, sortOf}
 use Rattle.rules.specs.Conforming.{mustBePresent, allows}
-use Rattle.layout.specs.Bodies.{recordAt}
+use Rattle.layout.specs.declared.Shape.{Shape}
+use Rattle.layout.specs.Fields.{versionAt}
+use Rattle.layout.specs.Bodies.{recordAt, widthOf, definitionsIn, particlesIn, attributesIn}
 use Rattle.model.specs.Members.{allMembers}
 use Rattle.form_index.specs.Indices.{IndexForm}
 
@@ -37,6 +39,14 @@ indexForm version w n defs parts attrs a =
       needed = λ j. mustBePresent version (sortOf (attributeIn w attrs j .sort));
       allows = λ j v. allows (sortOf (attributeIn w attrs j .sort)) (attributeIn w attrs j .value) v;
     }
+
+-- bodies that a shape cuts out
+abbrev pub formBy : Shape → Bytes → Bytes → Bytes → IndexForm
+formBy s defs parts attrs = indexForm (s .version) (s .width) (s .definitions) defs parts attrs (s .attributes)
+
+-- the form that a byte string says
+abbrev pub byIndex : Bytes → IndexForm
+byIndex bs = indexForm (numberAt versionAt 4 bs) (widthOf bs) (definitionCount bs) (definitionsIn bs) (particlesIn bs) (attributesIn bs) (attributeCount bs)
 
 -- the attributes alone
 abbrev pub attributesOf : ℕ → ℕ → Bytes → ℕ → IndexForm

@@ -6,8 +6,11 @@ use mathlib.Core.List.{List}
 use lib.Dec.{eqb, ltb}
 use lib.ListN.{length, getD}
 use Rattle.rules.specs.Bytes.{Bytes}
-use Rattle.rules.specs.Decode.{sortOf}
+use Rattle.rules.specs.Decode.{numberAt, definitionCount, attributeCount, sortOf}
 use Rattle.rules.specs.Conforming.{mustBePresent}
+use Rattle.layout.specs.declared.Shape.{Shape}
+use Rattle.layout.specs.Fields.{versionAt}
+use Rattle.layout.specs.Bodies.{Width, widthOf, definitionsIn, particlesIn, attributesIn}
 use Rattle.sets.specs.Sets.{has}
 use Rattle.model.specs.Members.{allMembers}
 use Rattle.next_children.specs.Line.{NextsLine}
@@ -36,6 +39,17 @@ pub record Tabled (version w n : ℕ) (defs parts attrs : Bytes) (a : ℕ) (t : 
   pub long : 4352 ≤ length t
   pub models : Modelled n defs parts n t
   pub needed : (i : ℕ) → i < n → Needed version w attrs a i (getD t (68 * i + 67) 0)
+
+-- .. of bodies that a shape cuts out, within the ceilings
+pub record TabledForm (s : Shape) (defs parts attrs : Bytes) (t : List ℕ) : Type 0 where
+  pub width : Width (s .width)
+  pub definitions : s .definitions ≤ 64
+  pub attributes : s .attributes ≤ 64
+  pub table : Tabled (s .version) (s .width) (s .definitions) defs parts attrs (s .attributes) t
+
+-- .. of the form that a byte string says
+pub record TableOf (bs : Bytes) (t : List ℕ) : Type 0 where
+  pub is : Tabled (numberAt versionAt 4 bs) (widthOf bs) (definitionCount bs) (definitionsIn bs) (particlesIn bs) (attributesIn bs) (attributeCount bs) t
 
 -- ---- while it is filled
 -- the models of the first i definitions, and no attribute yet

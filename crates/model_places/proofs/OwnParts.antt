@@ -21,7 +21,7 @@ use Rattle.model.proofs.PositionLaws.{spread-named}
 use Rattle.form_check.specs.Bodies.{definitions, formOfBodies}
 use Rattle.model_check.specs.Particles.{particlesRead}
 use Rattle.form_check.proofs.Reading.{definitions-length}
-use Rattle.form_index.specs.Reading.{modelPart}
+use Rattle.form_index.specs.Reading.{modelPart, byIndex}
 use Rattle.store_check.specs.Reading.{FieldsFit, partAt, noFlatDefinition}
 use Rattle.store_check.specs.Check.{FormPasses}
 use Rattle.store_check.proofs.IndexLaws.{namesOf}
@@ -34,7 +34,6 @@ use Rattle.store_check.proofs.StringChecks.{Headed, laid-in, passes-in, same-fo
 use Rattle.lookup.specs.Bodies.{bodiesOf}
 use Rattle.layout.specs.Bodies.{widthOf, definitionsIn, particlesIn}
 use Rattle.store_laws.specs.Stores.{storeIn}
-use Rattle.store_check.specs.Check.{byIndex}
 use Rattle.store_check.proofs.StoreFacts.{formIn, headed-of}
 
 module _ {w n : ℕ} {defs : Bytes} {p : ℕ} {parts : Bytes} {a : ℕ} {attrs : Bytes} (laid : Laid w n defs p parts a attrs) (x : FormPasses w n defs p parts a attrs) where

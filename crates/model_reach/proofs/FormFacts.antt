@@ -15,12 +15,11 @@ use Rattle.layout.specs.Bodies.{widthOf, definitionsIn, particlesIn}
 use Rattle.circle_check.specs.Members.{countAt, startAt, membersIn}
 use Rattle.circle_check.specs.Members as circles
 use Rattle.circle_check.proofs.CircleLaws.{Indexed}
-use Rattle.form_index.specs.Reading.{definitionIn, particlesBefore, modelPart}
+use Rattle.form_index.specs.Reading.{definitionIn, particlesBefore, modelPart, byIndex}
 use Rattle.store_check.proofs.FormLaws.{members-indexed, part-room}
 use Rattle.store_check.proofs.StringChecks.{Headed, laid-in, passes-in, same-form}
 use Rattle.store_check.proofs.IndexReads.{index-agrees}
 use Rattle.store_laws.specs.Stores.{storeIn}
-use Rattle.store_check.specs.Check.{byIndex}
 use Rattle.store_check.proofs.StoreFacts.{formIn, headed-of, Whole, whole}
 
 -- ---- one part of the particles, read in two ways

@@ -19,12 +19,11 @@ use Rattle.circle_check.specs.Members.{elementsOf, membersIn}
 use Rattle.circle_check.specs.Deep.{hasHeight, firstPasses}
 use Rattle.circle_check.specs.Avoiding.{Avoids}
 use Rattle.circle_check.proofs.CircleLaws.{members-named}
-use Rattle.form_index.specs.Reading.{modelPart}
+use Rattle.form_index.specs.Reading.{modelPart, byIndex}
 use Rattle.store_check.proofs.IndexLaws.{namesOf, lookup-at, name-of}
 use Rattle.store_check.proofs.ElementReads.{same-names}
 use Rattle.store_laws.specs.Stores.{storeIn}
 use Rattle.layout.specs.Bodies.{Number, definitionsIn, particlesIn}
-use Rattle.store_check.specs.Check.{byIndex}
 use Rattle.store_check.proofs.StoreFacts.{formIn}
 use Rattle.model_reach.specs.Reach.{standsInModel, comesRound}
 use Rattle.model_reach.proofs.FormFacts.{Reads}

@@ -1,17 +1,15 @@
 -- What the code finds for a row is what the form says of it.
 use Prim.Native.Nat.{ℕ, zero, suc, _+_, _-_, _≤_, _<_}
 use native.Mathlib.Omega.{arith}
-use native.Mathlib.Numerals.{add-one, sub-one}
+use native.Mathlib.Numerals.{sub-one}
 use mathlib.Core.Path.{_≡_, refl, ap, sym, _∙_}
 use mathlib.Core.Bool.{Bool, true, false, not, _&&_}
 use lib.Dec.{ltb, leb, eqb}
-use lib.ListN.{getD}
 use borrow.Author.Tests.{lt-ltb, le-ltb, le-leb, lt-leb, eq-eqb, ne-eqb}
 use Rattle.rules.specs.Bytes.{Bytes}
 use Rattle.rules.specs.Model.{Members}
 use Rattle.rules.specs.Layout.{FlatRow}
-use Rattle.rules.specs.Decode.{numberAt, readRow}
-use Rattle.codec.proofs.Numbers.{number-two}
+use Rattle.rules.specs.Decode.{readRow}
 use Rattle.sets.specs.Sets.{has}
 use Rattle.model.specs.Steps.{steps, finishes}
 use Rattle.form_index.specs.Indices.{IndexForm}
@@ -20,26 +18,7 @@ use Rattle.form_table.specs.Every.{every}
 use Rattle.form_table.specs.Table.{wants, Needed, freedOf}
 use Rattle.form_table.proofs.Numbers.{every-same}
 use Rattle.next_row.specs.declared.Level.{Level}
-use Rattle.next_row.specs.Judge.{spare, childMay, childrenEnd, attributeMay, freed, rowMay, may, ends, levelAfter, entered}
-
--- a number of two bytes
-pub number-small : (s : Bytes) (at : ℕ) → ((i : ℕ) → getD s i 0 < 256) → numberAt at 2 s < 65536
-number-small s at h = let a = h at in let b = h (at + 1) in omega (arith, number-two s at)
-
--- ---- levels
-module _ (l : Level) (sort index s j : ℕ) (es : s ≡ sort) (ej : j ≡ index) where
-  pub after-attribute : s ≡ 2 → _≡_ {A = Level} (record { holds = l .holds; index = l .index; seen = j + 2; last = l .last }) (levelAfter (eqb sort 2) l index)
-  after-attribute e = let z : j + 2 ≡ suc (suc j) = omega arith in rw (← es, ← ej, eq-eqb s 2 e, z)
-
-  pub after-child : (s ≡ 2 → ⊥) → _≡_ {A = Level} (record { holds = l .holds; index = l .index; seen = 0; last = j + 1 }) (levelAfter (eqb sort 2) l index)
-  after-child e = rw (← es, ← ej, ne-eqb s 2 e, add-one j)
-
-module _ (sort index s : ℕ) (es : s ≡ sort) where
-  pub below-element : s ≡ 1 → (j : ℕ) → j ≡ index → _≡_ {A = Level} (record { holds = 1; index = j; seen = 1; last = 0 }) (entered (eqb sort 1) index)
-  below-element e j ej = rw (← es, ← ej, eq-eqb s 1 e)
-
-  pub below-other : (s ≡ 1 → ⊥) → _≡_ {A = Level} (record { holds = 2; index = 0; seen = 0; last = 0 }) (entered (eqb sort 1) index)
-  below-other e = rw (← es, ne-eqb s 1 e)
+use Rattle.next_row.specs.Judge.{spare, childMay, childrenEnd, attributeMay, freed, rowMay, may, ends}
 
 -- ---- children
 module _ (kind k : ℕ) (e : k ≡ kind) (ms : Members ℕ) (last : ℕ) where

@@ -1,4 +1,4 @@
-//! Whether a row may come next at a level, whether a level may end, and the levels that a row makes.
+//! Whether a row may come next at a level, and whether a level may end.
 ghost use mathlib.Core.Path.{_≡_};
 ghost use Prim.Native.Nat.{_<_, _≤_};
 ghost use lib.Dec.{eqb};
@@ -8,16 +8,16 @@ ghost use Rattle.layout.specs.Bodies.{Width};
 ghost use Rattle.model.specs.Members.{allMembers};
 ghost use Rattle.form_index.specs.Reading.{definitionIn, modelPart, attributesOf, indexForm};
 ghost use Rattle.form_table.specs.Table.{Needed, Modelled, Tabled};
-ghost use Rattle.next_row.specs.Judge.{childMay, childrenEnd, attributeMay, rowMay, may, ends, levelAfter, entered};
+ghost use Rattle.next_row.specs.Judge.{childMay, childrenEnd, attributeMay, rowMay, may, ends};
 
 /// A place that is open. `holds`: 0 documents, 1 the rows below an element, 2 nothing. Of an element: its definition, 1
 /// and the first attribute that may still come (0: none may), and 1 and
-/// its last child's index (0: no child yet). 12 bytes.
+/// its last child's index (0: no child yet).
 pub struct Level {
-    pub holds: u16,
-    pub index: u16,
-    pub seen: u32,
-    pub last: u32,
+    pub holds: u8,
+    pub index: u8,
+    pub seen: u8,
+    pub last: u8,
 }
 
 // ---- children
@@ -176,52 +176,4 @@ pub fn may_end(
         return false;
     }
     children_end(n, defs, parts, table, i, l.last as usize)
-}
-
-/// The level after a row.
-pub fn after_row(l: Level, row: &[u8]) -> Level
-    ensures { λ r. ⌜ r ≡ levelAfter (eqb (readRow (now (row .entry)) .row .sort) 2) l (readRow (now (row .entry)) .row .index) ⌝ }
-{
-    let index = row_index(row) as u32;
-    if layout::row_sort(row) == 2 {
-        return Level {
-            holds: l.holds,
-            index: l.index,
-            seen: index + 2,
-            last: l.last,
-        };
-    }
-    Level {
-        holds: l.holds,
-        index: l.index,
-        seen: 0,
-        last: index + 1,
-    }
-}
-
-/// The level that a row opens.
-pub fn below_row(row: &[u8]) -> Level
-    ensures { λ r. ⌜ r ≡ entered (eqb (readRow (now (row .entry)) .row .sort) 1) (readRow (now (row .entry)) .row .index) ⌝ }
-{
-    if layout::row_sort(row) == 1 {
-        return Level {
-            holds: 1,
-            index: row_index(row),
-            seen: 1,
-            last: 0,
-        };
-    }
-    Level {
-        holds: 2,
-        index: 0,
-        seen: 0,
-        last: 0,
-    }
-}
-
-// A row's index, in the size of a level's field.
-fn row_index(row: &[u8]) -> u16
-    ensures { λ r. ⌜ r ≡ readRow (now (row .entry)) .row .index ⌝ }
-{
-    layout::row_index(row) as u16
 }

@@ -27,7 +27,7 @@ use Rattle.layout.specs.Bodies.{widthOf, WidthIn, Number, Product}
 use Rattle.layout.specs.Header.{headed}
 use Rattle.layout.proofs.HeaderLaws.{headed-short}
 use Rattle.lookup.specs.Bodies.{bodiesOf, rowsStartIn, RowsBegin}
-use Rattle.row_check.proofs.WalkLaws.{verdict-walk}
+use Rattle.row_check.specs.Walking.{beforeRead}
 use Rattle.store_laws.specs.Forms.{reformed, Forms}
 use Rattle.store_laws.proofs.StoreLaws.{Holds}
 use Rattle.store_laws.proofs.FormBytesLaws.{whole, reformed-bytes}
@@ -35,7 +35,6 @@ use Rattle.store_laws.proofs.FormLaws.{FormOf, read-form, forms-of, own-form, c
 use Rattle.form_front.specs.Front.{frontStands, FrontOf}
 use Rattle.document_row_writer.specs.Putting.{documentsIn, rowsOr, RowsRead}
 use Rattle.document_reading.specs.Judging.{rowsFit, rowsBehind, Stand}
-use Rattle.store_check.specs.Check.{byIndex}
 use Rattle.text_reading.specs.Stages.{withDocuments, rowsStand, ifRows, joinedBytes, documentsOutcome}
 use Rattle.read_call.specs.Reading.{Confirmed, RowsThere, documentsStored}
 
@@ -48,9 +47,9 @@ confirm-front bs txt {r} t e f = record { is = f .is ∙ sym (ap (λ (b : Bool).
 
 -- ---- the documents
 -- they fit just where they are there and stand
-fit-stand : (bs : Bytes) (xs : List (Deep FlatRow)) → rowsFit (widthOf bs) (byIndex bs) (some xs) ≡ rowsStand bs xs
+fit-stand : (bs : Bytes) (xs : List (Deep FlatRow)) → rowsFit (beforeRead bs) (some xs) ≡ rowsStand bs xs
 unfolding rowsStand
-fit-stand bs xs = ap (λ (b : Bool). leb (length xs) 4096 && b) (sym (verdict-walk (widthOf bs) (byIndex bs) (length xs) (each (rowBytes (widthOf bs)) xs)))
+fit-stand bs xs = refl
 
 -- ---- the store of both; `head` and `start`: where the code finds that the form begins and ends
 module _ {bs : Bytes} (h : Holds bs) {head start d p a : ℕ}
@@ -118,19 +117,19 @@ module _ (bs rest : Bytes) (room : ℕ) where
   unfolding documentsOutcome
   outcome-is = refl
 
-  outcome-bad : rowsFit (widthOf bs) (byIndex bs) (rowsBehind bs rest) ≡ false → documentsOutcome bs rest room ≡ refused 19
+  outcome-bad : rowsFit (beforeRead bs) (rowsBehind bs rest) ≡ false → documentsOutcome bs rest room ≡ refused 19
   outcome-bad e = outcome-is ∙ by (rowsBehind bs rest) e
     where
-      by : (o : Option (List (Deep FlatRow))) → rowsFit (widthOf bs) (byIndex bs) o ≡ false → outcome-by o ≡ refused 19
+      by : (o : Option (List (Deep FlatRow))) → rowsFit (beforeRead bs) o ≡ false → outcome-by o ≡ refused 19
       by none q = refl
       by (some xs) q =
           ap (λ (b : Bool). elim b as (λ z. Outcome) [ true ↦ unlessRefused (tooLong room (joinedBytes bs xs)) (joinedBytes bs xs) | false ↦ refused 19 ]) (sym (fit-stand bs xs) ∙ q)
 
-  outcome-good : rowsFit (widthOf bs) (byIndex bs) (rowsBehind bs rest) ≡ true
+  outcome-good : rowsFit (beforeRead bs) (rowsBehind bs rest) ≡ true
       → documentsOutcome bs rest room ≡ unlessRefused (tooLong room (documentsStored bs rest)) (documentsStored bs rest)
   outcome-good e = outcome-is ∙ by (rowsBehind bs rest) e
     where
-      by : (o : Option (List (Deep FlatRow))) → rowsFit (widthOf bs) (byIndex bs) o ≡ true
+      by : (o : Option (List (Deep FlatRow))) → rowsFit (beforeRead bs) o ≡ true
           → outcome-by o ≡ unlessRefused (tooLong room (joinedBytes bs (rowsOr o))) (joinedBytes bs (rowsOr o))
       by none q = absurd (false≢true q)
       by (some xs) q =
@@ -140,7 +139,7 @@ module _ (bs rest : Bytes) (room : ℕ) where
 rows-there : (bs rest : Bytes) {n : ℕ} → Stand bs rest true n → RowsThere bs rest n
 rows-there bs rest {n} s = record { there = by (rowsBehind bs rest) (sym (s .is)) .0; many = s .counts refl; few = omega (arith, s .counts refl, by (rowsBehind bs rest) (sym (s .is)) .1) }
   where
-    by : (o : Option (List (Deep FlatRow))) → rowsFit (widthOf bs) (byIndex bs) o ≡ true → (isThere o ≡ true) × (length (rowsOr o) ≤ 4096)
+    by : (o : Option (List (Deep FlatRow))) → rowsFit (beforeRead bs) o ≡ true → (isThere o ≡ true) × (length (rowsOr o) ≤ 4096)
     by none q = absurd (false≢true q)
     by (some xs) q = (refl, leb→le (length xs) 4096 (to-T (and-split (leb (length xs) 4096) _ q .0)))
 
@@ -153,7 +152,7 @@ module _ (bs rest out : Bytes) {b : Bool} {n : ℕ} (s : Stand bs rest b n) wher
   answer-bad t = rw (outcome-bad bs rest (length out) (sym (s .is) ∙ not-true b t)) (record { number-is = refl; length-is = refl; buffer-is = refl })
 
   module _ (t : not b ≡ false) {start w size product : ℕ} (r : RowsBegin bs start) (v : WidthIn bs w) (z : size ≡ rowSize w) (x : Product size n product) where
-    stands : rowsFit (widthOf bs) (byIndex bs) (rowsBehind bs rest) ≡ true
+    stands : rowsFit (beforeRead bs) (rowsBehind bs rest) ≡ true
     stands = sym (s .is) ∙ not-false b t
 
     -- the length that is computed

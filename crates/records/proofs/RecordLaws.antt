@@ -45,6 +45,14 @@ small-every (b ∷ bs) h = (h 0, small-every bs (λ i. h (suc i)))
 pub small-of : (bs : Bytes) → ((i : ℕ) → getD bs i 0 < 256) → Small bs
 small-of bs h = record { small = small-every bs h }
 
+every-small : (bs : Bytes) → Every IsByte bs → (i : ℕ) → getD bs i 0 < 256
+every-small [] a i = omega arith
+every-small (b ∷ bs) a zero = a .0
+every-small (b ∷ bs) a (suc i) = every-small bs (a .1) i
+
+pub small-at : {bs : Bytes} → Small bs → (i : ℕ) → getD bs i 0 < 256
+small-at {bs} a = every-small bs (a .small)
+
 -- ---- numbers
 le-unle : (bs : Bytes) → Every IsByte bs → le (length bs) (unle bs) ≡ bs
 le-unle [] a = refl

@@ -47,6 +47,10 @@ rowFits w bs =
     && (valueFits w bs rowValueAt (rowLength bs)
     && ((not (eqb (readRow bs .row .sort) 1) || eqb (rowLength bs) 0) && ((not (eqb (readRow bs .row .sort) 3) || eqb (readRow bs .row .index) 0) && unusedFit w bs)))
 
+-- a row's serial: from 1, and below the next one
+abbrev pub serialFits : ℕ → ℕ → Bool
+serialFits next k = leb 1 k && ltb k next
+
 -- ---- bodies of records
 -- every one of `count` records of `size` bytes passes
 unfoldable pub eachFits : (Bytes → Bool) → ℕ → ℕ → Bytes → Bool

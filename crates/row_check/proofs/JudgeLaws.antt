@@ -15,7 +15,7 @@ use Rattle.rules.specs.Layout.{FlatRow}
 use Rattle.rules.proofs.Words.{and-both, and-split}
 use Rattle.next_row.specs.declared.Level.{Level}
 use Rattle.form_index.specs.Indices.{IndexForm, Sort, Below, Everywhere, Documents}
-use Rattle.row_step.specs.Machine.{rowsRun, Fine, machine}
+use Rattle.row_check.specs.Machine.{rowsRun, Fine, machine}
 use Rattle.form_table.specs.Every.{every}
 use Rattle.next_row.specs.Judge.{spare, attributeMay, childMay, childrenEnd, rowMay, levelAfter, entered, groundLevel, judge}
 use Rattle.row_check.proofs.MachineLaws.{Within, accepted}
@@ -27,7 +27,7 @@ abbrev inside : ℕ → ℕ → ℕ → Level
 inside i seen last = record { holds = 1; index = i; seen = seen; last = last }
 
 -- the rows right below a row, by whether it is an element
-abbrev UnderAs : IndexForm → Bool → ℕ → List FlatRow → Type 0
+abbrev pub UnderAs : IndexForm → Bool → ℕ → List FlatRow → Type 0
 UnderAs f c i rs = elim c [ true ↦ Below f i rs | false ↦ rs ≡ [] ]
 
 module _ (f : IndexForm) where

@@ -2,5 +2,9 @@ pub mod MachineLaws
 pub mod Attributes
 pub mod Children
 pub mod JudgeLaws
+pub mod DepthLaws
+pub mod StateLaws
 pub mod WalkLaws
 pub mod PassLaws
+pub mod BytesLaws
+pub mod BeforeLaws

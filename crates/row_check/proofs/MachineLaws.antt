@@ -14,7 +14,7 @@ use Rattle.rules.specs.Preorder.{Deep, preorder, build}
 use Rattle.rules.proofs.Words.{and-both, and-split}
 use Rattle.rules.proofs.PreorderLaws.{rising, build-preorder, preorder-build, build-less, build-more, preorder-rises, build-same}
 use Rattle.next_row.specs.Automaton.{Automaton}
-use Rattle.row_step.specs.Machine.{rowsRun, Fine, levelsEnd, opened, machine}
+use Rattle.row_check.specs.Machine.{rowsRun, Fine, levelsEnd, opened, machine}
 use Rattle.form_table.proofs.Numbers.{Side, below, at, above, side, every→, every←}
 
 -- all rows stand at depths below b
@@ -38,22 +38,22 @@ module _ {A S : Type 0} (m : Automaton A S) (none : S) where
 
   module _ (b : ℕ) where
     module _ (x : Deep A) (l : List S) (h : length l ≡ suc b) (p : x .depth < b) where
-      at-below : (k : ℕ) → k < x .depth → getD (opened m none l (x .depth) (x .row)) k none ≡ getD l k none
+      pub at-below : (k : ℕ) → k < x .depth → getD (opened m none l (x .depth) (x .row)) k none ≡ getD l k none
       at-below k q =
           getD-set-other (set l (x .depth) (m .next (getD l (x .depth) none) (x .row))) (suc (x .depth)) k (m .enter (x .row)) none (λ e. omega arith)
           ∙ getD-set-other l (x .depth) k (m .next (getD l (x .depth) none) (x .row)) none (λ e. omega arith)
 
-      at-row : getD (opened m none l (x .depth) (x .row)) (x .depth) none ≡ m .next (getD l (x .depth) none) (x .row)
+      pub at-row : getD (opened m none l (x .depth) (x .row)) (x .depth) none ≡ m .next (getD l (x .depth) none) (x .row)
       at-row =
           getD-set-other (set l (x .depth) (m .next (getD l (x .depth) none) (x .row))) (suc (x .depth)) (x .depth) (m .enter (x .row)) none (λ e. omega arith)
           ∙ getD-set-same l (x .depth) (m .next (getD l (x .depth) none) (x .row)) none (omega arith)
 
-      at-inside : getD (opened m none l (x .depth) (x .row)) (suc (x .depth)) none ≡ m .enter (x .row)
+      pub at-inside : getD (opened m none l (x .depth) (x .row)) (suc (x .depth)) none ≡ m .enter (x .row)
       at-inside =
           getD-set-same (set l (x .depth) (m .next (getD l (x .depth) none) (x .row))) (suc (x .depth)) (m .enter (x .row)) none
           (omega (arith, length-set l (x .depth) (m .next (getD l (x .depth) none) (x .row))))
 
-      still : length (opened m none l (x .depth) (x .row)) ≡ suc b
+      pub still : length (opened m none l (x .depth) (x .row)) ≡ suc b
       still =
           length-set (set l (x .depth) (m .next (getD l (x .depth) none) (x .row))) (suc (x .depth)) (m .enter (x .row))
           ∙ length-set l (x .depth) (m .next (getD l (x .depth) none) (x .row))

@@ -1,150 +1,140 @@
--- The loop of the steps: the walk over the rows that are left; the pass from the start; and what the verdict says.
+-- The loop of the steps: the walk over the rows that are left; and what the verdict says.
 use Prim.Native.Nat.{ℕ, zero, suc, _+_, _*_, _-_, _≤_, _<_}
 use native.Mathlib.Omega.{arith}
 use mathlib.Core.Path.{_≡_, refl, ap, sym, _∙_}
 use mathlib.Core.Logic.{_↔_}
-use mathlib.Core.Bool.{Bool, true, false, _&&_, false≢true}
-use mathlib.Core.Option.{Option, none, some, Option·some-injective}
-use mathlib.Core.List.{List}
-use lib.ListN.{length, getD, take, drop, replicate, length-drop}
-use lib.Seq.{getD-take, getD-drop, take-all}
-use Rattle.rules.specs.Bytes.{Bytes}
-use Rattle.rules.specs.Model.{Distinct, names}
+use mathlib.Core.Bool.{Bool, true, false, false≢true}
+use mathlib.Core.Option.{Option, none, some}
+use lib.ListN.{length, getD, take, drop, replicate, length-drop, length-replicate}
+use lib.Seq.{getD-take, getD-drop}
+use Rattle.rules.specs.Bytes.{Bytes, all}
 use Rattle.rules.specs.Layout.{rowSize}
+use Rattle.rules.specs.Decode.{readRow}
+use Rattle.rules.specs.WellFormed.{isThere}
 use Rattle.rules.proofs.Words.{and-both, and-split}
+use Rattle.rules.proofs.BooleanLaws.{all-of, all-in}
 use Rattle.codec.proofs.Writers.{tail-seen}
 use Rattle.layout.proofs.LayoutLaws.{room-rest}
-use Rattle.form_index.specs.Indices.{IndexForm, Documents}
-use Rattle.next_row.specs.declared.Level.{Level}
+use Rattle.records.specs.Records.{serialFits}
+use Rattle.form_index.specs.Indices.{Documents}
 use Rattle.next_row.specs.Judge.{groundLevel, judge}
-use Rattle.row_step.specs.Machine.{machine}
-use Rattle.rules.specs.WellFormed.{isThere}
-use Rattle.row_check.specs.Verdict.{rowsRead, fieldsFit, verdict}
-use Rattle.row_check.specs.Stepping.{StepsMade}
-use Rattle.row_step.specs.Steps.{State, noLevels, startState, mayStep, stepped, end, walk, stateEnds, stateOf, StepMade}
+use Rattle.row_state.specs.State.{StateFits, startState, stepped}
+use Rattle.open_levels.specs.Open.{end}
+use Rattle.row_step.specs.Steps.{Before, elementFits, mayStep, walk, stateEnds, StepMade}
+use Rattle.row_check.specs.Machine.{machine}
+use Rattle.row_check.specs.Verdict.{rowsRead, fieldsFit, answerFrom, verdict, SoundForm, RowsConform}
+use Rattle.row_check.specs.Walking.{WalkMade}
 use Rattle.row_check.proofs.MachineLaws.{Within}
 use Rattle.row_check.proofs.JudgeLaws.{documents-judged}
-use Rattle.row_step.proofs.LevelLaws.{none-yet}
-use Rattle.row_check.proofs.WalkLaws.{walk-none, verdict-walk}
+use Rattle.row_check.proofs.DepthLaws.{elements-fit}
+use Rattle.row_check.proofs.WalkLaws.{walk-none, noLevels, levels-many, levels-ground, rangesFit, verdict-judged}
 
 -- ---- the loop of the steps
--- the walk over the rows that are left, from the state reached, is the whole walk; there is a level for each depth, and
--- room for the rows that are left
-pub record StepsLeft (w : ℕ) (f : IndexForm) (goal : Option State) (s : List ℕ) (live : ℕ) (t : Bytes) (m : ℕ) : Type 0 where
-  pub is : goal ≡ walk w f m t (some (stateOf s live))
-  pub long : length s ≡ 771
-  pub low : live ≤ 257
-  pub room : rowSize w * m ≤ length t
+-- the walk over the rows that are left, from the state reached, is the whole walk; and there is room for these rows
+pub record StepsLeft (b : Before) (goal : Option Bytes) (s t : Bytes) (m : ℕ) : Type 0 where
+  pub is : goal ≡ walk b m t (some s)
+  pub fits : StateFits s
+  pub room : rowSize (b .width) * m ≤ length t
 
-module _ (w : ℕ) (f : IndexForm) (goal : Option State) (s : List ℕ) (live : ℕ) (t : Bytes) (m : ℕ) (p : StepsLeft w f goal s live t m) where
+module _ (b : Before) (goal : Option Bytes) (s t : Bytes) (m : ℕ) (p : StepsLeft b goal s t m) where
   -- no row is left
-  pub steps-end : m ≤ 0 → goal ≡ some (stateOf s live)
+  pub steps-end : m ≤ 0 → goal ≡ some s
   unfolding walk
-  steps-end h = let z : m ≡ 0 = omega arith in p .is ∙ ap (λ (k : ℕ). walk w f k t (some (stateOf s live))) z
+  steps-end h = let z : m ≡ 0 = omega arith in p .is ∙ ap (λ (k : ℕ). walk b k t (some s)) z
 
-  module _ (h : 0 < m) (size : ℕ) (z : size ≡ rowSize w) (b : Bool) (s′ : List ℕ) (live′ : ℕ) (made : StepMade w f s live (take size t) b s′ live′) where
+  module _ (h : 0 < m) (size : ℕ) (z : size ≡ rowSize (b .width)) {c : Bool} {s′ : Bytes} (made : StepMade b s (take size t) c s′) where
+    abbrev from-first : Bool → Option Bytes
+    from-first c = elim c as (λ x. Option Bytes) [ true ↦ some (stepped s (readRow (take (rowSize (b .width)) t))) | false ↦ none ]
+
     -- the first row, and the rows after it
-    first : goal ≡ walk w f (m - 1) (drop (rowSize w) t) (elim b as (λ x. Option State) [ true ↦ some (stepped f (stateOf s live) (take (rowSize w) t)) | false ↦ none ])
+    first : goal ≡ walk b (m - 1) (drop (rowSize (b .width)) t) (from-first c)
     unfolding walk
     first =
         let one : m ≡ suc (m - 1) = omega arith in
-        let answer : mayStep w f (stateOf s live) (take (rowSize w) t) ≡ b = ap (λ (k : ℕ). mayStep w f (stateOf s live) (take k t)) (sym z) ∙ sym (made .is) in
+        let answer : mayStep b s (take (rowSize (b .width)) t) ≡ c = ap (λ (k : ℕ). mayStep b s (take k t)) (sym z) ∙ sym (made .is) in
         p .is
-        ∙ ap (λ (k : ℕ). walk w f k t (some (stateOf s live))) one
-        ∙ ap (λ (x : Bool). walk w f (m - 1) (drop (rowSize w) t) (elim x as (λ y. Option State) [ true ↦ some (stepped f (stateOf s live) (take (rowSize w) t)) | false ↦ none ])) answer
+        ∙ ap (λ (k : ℕ). walk b k t (some s)) one
+        ∙ ap (λ (x : Bool). walk b (m - 1) (drop (rowSize (b .width)) t) (from-first x)) answer
 
-    pub steps-refused : b ≡ false → goal ≡ none
+    pub steps-refused : c ≡ false → goal ≡ none
     steps-refused q =
         first
-        ∙ ap (λ (x : Bool). walk w f (m - 1) (drop (rowSize w) t) (elim x as (λ y. Option State) [ true ↦ some (stepped f (stateOf s live) (take (rowSize w) t)) | false ↦ none ])) q
-        ∙ walk-none w f (m - 1) (drop (rowSize w) t)
+        ∙ ap (λ (x : Bool). walk b (m - 1) (drop (rowSize (b .width)) t) (from-first x)) q
+        ∙ walk-none b (m - 1) (drop (rowSize (b .width)) t)
 
-    pub steps-on : b ≡ true → StepsLeft w f goal s′ live′ (take (length t - size) (drop size t)) (m - 1)
+    pub steps-on : c ≡ true → StepsLeft b goal s′ (take (length t - size) (drop size t)) (m - 1)
     steps-on q =
-        let state : stepped f (stateOf s live) (take (rowSize w) t) ≡ stateOf s′ live′ = ap (λ (k : ℕ). stepped f (stateOf s live) (take k t)) (sym z) ∙ sym (made .state q) in
-        rw (z, tail-seen t (rowSize w))
+        let state : stepped s (readRow (take (rowSize (b .width)) t)) ≡ s′ = ap (λ (k : ℕ). stepped s (readRow (take k t))) (sym z) ∙ sym (made .state q) in
+        rw (z, tail-seen t (rowSize (b .width)))
         (record {
           is =
               first
-              ∙ ap (λ (x : Bool). walk w f (m - 1) (drop (rowSize w) t) (elim x as (λ y. Option State) [ true ↦ some (stepped f (stateOf s live) (take (rowSize w) t)) | false ↦ none ])) q
-              ∙ ap (λ (x : State). walk w f (m - 1) (drop (rowSize w) t) (some x)) state;
-          long = made .long;
-          low = made .low;
-          room = simp length-drop (room-rest (rowSize w) m (length t) (λ e. omega arith) (p .room));
+              ∙ ap (λ (x : Bool). walk b (m - 1) (drop (rowSize (b .width)) t) (from-first x)) q
+              ∙ ap (λ (x : Bytes). walk b (m - 1) (drop (rowSize (b .width)) t) (some x)) state;
+          fits = made .fits;
+          room = simp length-drop (room-rest (rowSize (b .width)) m (length t) (λ e. omega arith) (p .room));
         })
 
--- ---- what the steps leave
-module _ (w : ℕ) (f : IndexForm) (s : List ℕ) (live count : ℕ) (rows : Bytes) where
-  pub made-none : {s′ : List ℕ} {live′ : ℕ} → walk w f count rows (some (stateOf s live)) ≡ none → length s′ ≡ 771 → live′ ≤ 257 → StepsMade w f s live count rows false s′ live′
-  made-none e l m = record { is = sym (ap isThere e); state = λ z. absurd (false≢true z); long = l; low = m }
+-- ---- what the walk leaves
+module _ (b : Before) (s : Bytes) (count : ℕ) (rows : Bytes) {s′ : Bytes} (f : StateFits s′) where
+  pub made-none : walk b count rows (some s) ≡ none → WalkMade b s count rows false s′
+  made-none e = record { is = sym (ap isThere e); state = λ z. absurd (false≢true z); fits = f }
 
-  pub made-all : {s′ : List ℕ} {live′ : ℕ} → walk w f count rows (some (stateOf s live)) ≡ some (stateOf s′ live′) → length s′ ≡ 771 → live′ ≤ 257 → StepsMade w f s live count rows true s′ live′
-  made-all e l m = record { is = sym (ap isThere e); state = λ z. e; long = l; low = m }
+  pub made-all : walk b count rows (some s) ≡ some s′ → WalkMade b s count rows true s′
+  made-all e = record { is = sym (ap isThere e); state = λ z. e; fits = f }
 
--- one row: the step that it makes
-pub steps-one : (w : ℕ) (f : IndexForm) (s : List ℕ) (live : ℕ) (row : Bytes) {b : Bool} {s′ : List ℕ} {live′ : ℕ} → length row ≡ rowSize w
-    → StepsMade w f s live 1 row b s′ live′ → StepMade w f s live row b s′ live′
-unfolding walk
-steps-one w f s live row {b} {s′} {live′} l x =
-    by (mayStep w f (stateOf s live) row) refl
-  where
-    whole : take (rowSize w) row ≡ row
-    whole = take-all (rowSize w) row (omega (arith, l))
-
-    abbrev-walk : (c : Bool) → Option State
-    abbrev-walk c = elim c [ true ↦ some (stepped f (stateOf s live) row) | false ↦ none ]
-
-    walked : walk w f 1 row (some (stateOf s live)) ≡ abbrev-walk (mayStep w f (stateOf s live) row)
-    walked = ap (λ (r : Bytes). elim (mayStep w f (stateOf s live) r) as (λ y. Option State) [ true ↦ some (stepped f (stateOf s live) r) | false ↦ none ]) whole
-
-    by : (c : Bool) → mayStep w f (stateOf s live) row ≡ c → StepMade w f s live row b s′ live′
-    by true q =
-        let e : walk w f 1 row (some (stateOf s live)) ≡ some (stepped f (stateOf s live) row) = walked ∙ ap abbrev-walk q in
-        record {
-          is = x .is ∙ ap isThere e ∙ sym q;
-          state = λ z. sym (Option·some-injective (stepped f (stateOf s live) row) (stateOf s′ live′) (sym e ∙ x .state z));
-          long = x .long;
-          low = x .low;
-        }
-    by false q =
-        let e : walk w f 1 row (some (stateOf s live)) ≡ none = walked ∙ ap abbrev-walk q in
-        record {
-          is = x .is ∙ ap isThere e ∙ sym q;
-          state = λ z. absurd (false≢true (sym (ap isThere e) ∙ sym (x .is) ∙ z));
-          long = x .long;
-          low = x .low;
-        }
-
--- ---- the pass: the steps from the start, and the end
-module _ (w : ℕ) (f : IndexForm) (count : ℕ) (rows : Bytes) {b : Bool} {s′ : List ℕ} {live′ : ℕ} (x : StepsMade w f (replicate 771 0) 1 count rows b s′ live′) where
-  begin : walk w f count rows (some startState) ≡ walk w f count rows (some (stateOf (replicate 771 0) 1))
-  unfolding startState noLevels
-  begin = ap (λ (l : List Level). walk w f count rows (some (record { levels = l; live = 1 }))) (sym (none-yet 257))
-
-  pub pass-refused : b ≡ false → false ≡ verdict w f count rows
-  pass-refused q = sym (verdict-walk w f count rows ∙ ap (stateEnds f) begin ∙ none-ends (walk w f count rows (some (stateOf (replicate 771 0) 1))) (sym (x .is) ∙ q))
+-- the answer from a state on: a walk that refuses, or the end that is asked after it
+module _ {b : Before} {s : Bytes} {count : ℕ} {rows : Bytes} {answer : Bool} {s′ : Bytes} (x : WalkMade b s count rows answer s′) where
+  pub answer-refused : answer ≡ false → false ≡ answerFrom b s count rows
+  unfolding answerFrom
+  answer-refused q = sym (none-ends (walk b count rows (some s)) (sym (x .is) ∙ q))
     where
-      none-ends : (o : Option State) → isThere o ≡ false → stateEnds f o ≡ false
+      none-ends : (o : Option Bytes) → isThere o ≡ false → stateEnds (b .form) o ≡ false
       none-ends none e = refl
-      none-ends (some s) e = absurd (false≢true (sym e))
+      none-ends (some t) e = absurd (false≢true (sym e))
 
-  pub pass-ended : b ≡ true → {e : Bool} → e ≡ end f (stateOf s′ live′) → e ≡ verdict w f count rows
-  pass-ended q h = h ∙ sym (verdict-walk w f count rows ∙ ap (stateEnds f) (begin ∙ x .state q))
+  pub answer-ended : answer ≡ true → {r : Bool} → r ≡ end (b .form) s′ → r ≡ answerFrom b s count rows
+  unfolding answerFrom
+  answer-ended q h = h ∙ sym (ap (stateEnds (b .form)) (x .state q))
+
+-- from the start
+pub start-fits : StateFits (replicate {A = ℕ} 130 0)
+start-fits = record { long = length-replicate {A = ℕ} 130 0; low = omega arith }
+
+pub from-start : (b : Before) (count : ℕ) (rows : Bytes) {r : Bool} → r ≡ answerFrom b (replicate {A = ℕ} 130 0) count rows → r ≡ verdict b count rows
+unfolding verdict startState
+from-start b count rows e = e
 
 -- ---- what the verdict says
-rows-within : (w m : ℕ) (t : Bytes) → ((i : ℕ) → getD t i 0 < 256) → Within 256 (rowsRead w m t)
+-- each depth is a byte
+pub rows-within : (w m : ℕ) (t : Bytes) → ((i : ℕ) → getD t i 0 < 256) → Within 256 (rowsRead w m t)
 rows-within w zero t h = tt
 rows-within w (suc m) t h =
     ((rw (getD-take (rowSize w) t 1 0 (omega arith)) (h 1)), rows-within w m (drop (rowSize w) t) (λ i. rw (getD-drop (rowSize w) t i 0) (h (rowSize w + i))))
 
--- THE VERDICT: the fields fit, and the rows are those of documents that conform
-pub verdict-says : (w : ℕ) (f : IndexForm) (count : ℕ) (rows : Bytes) (r : Bool) → r ≡ verdict w f count rows → ((i : ℕ) → i < f .size → Distinct (names (f .model i)))
-    → ((i : ℕ) → getD rows i 0 < 256) → (r ≡ true) ↔ ((fieldsFit w count rows ≡ true) × Documents f (rowsRead w count rows))
-unfolding verdict noLevels
-verdict-says w f count rows r e sound small =
-    let j = documents-judged f sound 256 (rowsRead w count rows) noLevels refl refl (rows-within w count rows small) in (
-      λ h.
-          let (a, b) = and-split (fieldsFit w count rows) (machine (judge f) groundLevel noLevels 1 (rowsRead w count rows)) (sym e ∙ h) in
-          (a, j .0 b),
-      λ d. e ∙ and-both (d .0) (j .1 (d .1)),
-    )
+-- THE VERDICT of the walk is that the rows conform
+pub verdict-says : (b : Before) (count : ℕ) (rows : Bytes) → SoundForm (b .form) → Within 256 (rowsRead (b .width) count rows) → (verdict b count rows ≡ true) ↔ RowsConform b count rows
+verdict-says b count rows sound low = (to, from)
+  where
+    judge-says : (machine (judge (b .form)) groundLevel noLevels 1 (rowsRead (b .width) count rows) ≡ true) ↔ Documents (b .form) (rowsRead (b .width) count rows)
+    judge-says = documents-judged (b .form) (sound .once) 256 (rowsRead (b .width) count rows) noLevels levels-many levels-ground low
+
+    to : verdict b count rows ≡ true → RowsConform b count rows
+    to e =
+        let (fields, e₁) = and-split (fieldsFit (b .width) count rows) _ (verdict-judged b (sound .definitions) (sound .attributes) count rows ∙ e) in
+        let (ranged, run) = and-split (all (rangesFit b) (rowsRead (b .width) count rows)) (machine (judge (b .form)) groundLevel noLevels 1 (rowsRead (b .width) count rows)) e₁ in
+        record {
+          fields = fields;
+          serials = all-of (λ x. serialFits (b .next) (x .row .serial)) (rowsRead (b .width) count rows)
+              (λ x m. and-split (serialFits (b .next) (x .row .serial)) (elementFits (b .form .size) x) (all-in (rangesFit b) x (rowsRead (b .width) count rows) ranged m) .0);
+          documents = judge-says .0 run;
+        }
+
+    from : RowsConform b count rows → verdict b count rows ≡ true
+    from r =
+        let elements : all (elementFits (b .form .size)) (rowsRead (b .width) count rows) ≡ true = elements-fit (b .form) (sound .definitions) (sound .chains) (rowsRead (b .width) count rows) (r .documents) in
+        let ranged : all (rangesFit b) (rowsRead (b .width) count rows) ≡ true =
+        all-of (rangesFit b) (rowsRead (b .width) count rows)
+        (λ x m. and-both (all-in (λ y. serialFits (b .next) (y .row .serial)) x (rowsRead (b .width) count rows) (r .serials) m)
+        (all-in (elementFits (b .form .size)) x (rowsRead (b .width) count rows) elements m)) in
+        sym (verdict-judged b (sound .definitions) (sound .attributes) count rows) ∙ and-both (r .fields) (and-both ranged (judge-says .1 (r .documents)))

@@ -1,2 +1,3 @@
+pub mod Machine
 pub mod Verdict
-pub mod Stepping
+pub mod Walking

@@ -1,59 +1,42 @@
-//! One pass over the tree rows: the fields of each, their depths, and whether they are those of documents that conform.
+//! One walk over the tree rows, for their fields and serials, their depths, and whether they are those of documents that
+//! conform (paper 02, W3): by the bytes before the tree body, from a state on, over any number of rows.
+use layout::Shape;
+use row_state::STATE;
 ghost use mathlib.Core.Path.{_≡_};
-ghost use mathlib.Core.Logic.{_↔_};
-ghost use mathlib.Core.Bool.{true};
-ghost use Prim.Native.Nat.{ℕ, _*_, _<_, _≤_};
+ghost use Prim.Native.Nat.{_*_, _≤_};
 ghost use lib.ListN.{length};
-ghost use Rattle.rules.specs.Model.{Distinct, names};
 ghost use Rattle.rules.specs.Layout.{rowSize};
-ghost use Rattle.rules.specs.Decode.{readRow, readMany};
-ghost use Rattle.layout.specs.Bodies.{Width};
-ghost use Rattle.records.specs.Records.{rowFits, eachFits};
-ghost use Rattle.form_index.specs.Indices.{Documents};
-ghost use Rattle.form_index.specs.Reading.{indexForm};
-ghost use Rattle.form_table.specs.Table.{Tabled};
-ghost use Rattle.row_check.specs.Verdict.{verdict};
-ghost use Rattle.row_check.specs.Stepping.{StepsMade};
+ghost use Rattle.layout.specs.Bodies.{widthOf};
+ghost use Rattle.form_index.specs.Reading.{byIndex};
+ghost use Rattle.form_table.specs.Table.{TabledForm, TableOf};
+ghost use Rattle.row_state.specs.State.{openElements, StateFits};
+ghost use Rattle.open_levels.specs.Open.{end};
+ghost use Rattle.row_step.specs.Steps.{beforeBy};
+ghost use Rattle.row_check.specs.Verdict.{answerFrom, verdict};
+ghost use Rattle.row_check.specs.Walking.{beforeWith, FewIn, WalkMade};
 
-/// The steps of `count` rows from a state on: whether each row may come, and the state after them. Nothing else calls
-/// `row_step::step`, so that it is compiled into this loop, for the check and for the reading of a text.
-pub fn steps(
-    version: usize,
-    w: usize,
-    n: usize,
+// The steps of `count` rows. Nothing else calls `row_step::step`, so that it is compiled into this loop, for the check
+// and for the reading of a text.
+fn steps(
+    s: Shape,
+    next: usize,
     defs: &[u8],
     parts: &[u8],
-    a: usize,
     attrs: &[u8],
     table: &[u64],
-    levels: &mut [u32; 771],
-    live: &mut usize,
+    state: &mut [u8; STATE],
     rows: &[u8],
     count: usize,
 ) -> bool
-    requires { ⌜ Width w × (n ≤ 64) × (a ≤ 64) × (rowSize w * count ≤ length (now rows)) × Tabled version w n (now defs) (now parts) (now attrs) a (now table)
-        × (length (now levels) ≡ 771) × (now live ≤ 257) ⌝ }
-    ensures { λ r. ⌜ StepsMade w (indexForm version w n (now (defs .entry)) (now (parts .entry)) (now (attrs .entry)) a) (now (levels .entry)) (now (live .entry)) count
-        (now (rows .entry)) r (now (levels .exit)) (now (live .exit)) ⌝ }
+    requires { ⌜ TabledForm s (now defs) (now parts) (now attrs) (now table) × StateFits (now state) × (rowSize (s .width) * count ≤ length (now rows)) ⌝ }
+    ensures { λ r. ⌜ WalkMade (beforeBy s next (now (defs .entry)) (now (parts .entry)) (now (attrs .entry))) (now (state .entry)) count (now (rows .entry)) r (now (state .exit)) ⌝ }
 {
-    let size = layout::row_size(w);
+    let size = layout::row_size(s.width);
     let mut t = rows;
     let mut m = count;
     while 0 < m {
         let row = &t[..size];
-        if !row_step::step(
-            version,
-            w,
-            n,
-            defs,
-            parts,
-            a,
-            attrs,
-            table,
-            levels,
-            live,
-            row,
-        ) {
+        if !row_step::step(s, next, defs, parts, attrs, table, state, row) {
             return false;
         }
         t = &t[size..];
@@ -62,65 +45,77 @@ pub fn steps(
     true
 }
 
-// The one pass: a step for each row, and the end.
-fn pass(
-    version: usize,
-    w: usize,
-    n: usize,
-    defs: &[u8],
-    parts: &[u8],
-    a: usize,
-    attrs: &[u8],
-    table: &[u64],
-    rows: &[u8],
-    count: usize,
-) -> bool
-    requires { ⌜ Width w × (n ≤ 64) × (a ≤ 64) × (rowSize w * count ≤ length (now rows)) × Tabled version w n (now defs) (now parts) (now attrs) a (now table) ⌝ }
-    ensures { λ r. ⌜ r ≡ verdict w (indexForm version w n (now (defs .entry)) (now (parts .entry)) (now (attrs .entry)) a) count (now (rows .entry)) ⌝ }
+// ---- by the bytes before the tree body
+
+/// The table of the form that they say.
+pub fn lay_table(before: &[u8], table: &mut [u64])
+    requires { ⌜ FewIn (now before) × (4352 ≤ length (now table)) ⌝ }
+    ensures { λ _. ⌜ TableOf (now (before .entry)) (now (table .exit)) ⌝ }
 {
-    let mut levels = [0; 771];
-    let mut live = 1;
-    let made = steps(
-        version,
-        w,
-        n,
-        defs,
-        parts,
-        a,
-        attrs,
-        table,
-        &mut levels,
-        &mut live,
-        rows,
-        count,
-    );
-    if !made {
-        return false;
-    }
-    row_step::end(version, w, n, defs, parts, a, attrs, table, &levels, live)
+    let s = layout::shape_of(before);
+    let defs = layout::definition_body(before, s);
+    let parts = layout::particle_body(before, s);
+    let attrs = layout::attribute_body(before, s);
+    let version = s.version as usize;
+    let n = s.definitions;
+    form_table::fill_table(version, s.width, n, defs, parts, s.attributes, attrs, table);
 }
 
-/// Whether the rows' fields fit and they are those of documents that conform to a form of n definitions and a
-/// attributes in which no model names an element twice.
-pub fn rows_pass(
-    version: usize,
-    w: usize,
-    n: usize,
-    defs: &[u8],
-    parts: &[u8],
-    a: usize,
-    attrs: &[u8],
+/// The walk over `count` rows from a state on, with a next serial: whether each row may come, and the state after them.
+pub fn walk_rows(
+    before: &[u8],
+    next: usize,
+    table: &[u64],
+    state: &mut [u8; STATE],
     rows: &[u8],
     count: usize,
 ) -> bool
-    requires { ⌜ Width w × (n ≤ 64) × (a ≤ 64) × (rowSize w * count ≤ length (now rows))
-        × ((i : ℕ) → i < n → Distinct (names (indexForm version w n (now defs) (now parts) (now attrs) a .model i))) ⌝ }
-    ensures { λ r. ⌜ (r ≡ true)
-        ↔ ((eachFits (rowFits w) (rowSize w) count (now (rows .entry)) ≡ true)
-        × Documents (indexForm version w n (now (defs .entry)) (now (parts .entry)) (now (attrs .entry)) a)
-        (readMany readRow (rowSize w) count (now (rows .entry)))) ⌝ }
+    requires { ⌜ FewIn (now before) × TableOf (now before) (now table) × StateFits (now state) × (rowSize (widthOf (now before)) * count ≤ length (now rows)) ⌝ }
+    ensures { λ r. ⌜ WalkMade (beforeWith next (now (before .entry))) (now (state .entry)) count (now (rows .entry)) r (now (state .exit)) ⌝ }
+{
+    let s = layout::shape_of(before);
+    let defs = layout::definition_body(before, s);
+    let parts = layout::particle_body(before, s);
+    let attrs = layout::attribute_body(before, s);
+    steps(s, next, defs, parts, attrs, table, state, rows, count)
+}
+
+/// Whether the rows may end after a state.
+pub fn walk_ends(before: &[u8], table: &[u64], state: &[u8; STATE]) -> bool
+    requires { ⌜ FewIn (now before) × TableOf (now before) (now table) × (openElements (now state) ≤ 64) ⌝ }
+    ensures { λ r. ⌜ r ≡ end (byIndex (now (before .entry))) (now (state .entry)) ⌝ }
+{
+    let s = layout::shape_of(before);
+    let defs = layout::definition_body(before, s);
+    let parts = layout::particle_body(before, s);
+    let attrs = layout::attribute_body(before, s);
+    open_levels::end(s, defs, parts, attrs, table, state)
+}
+
+/// The walk's answer from a state on: whether the `count` rows left may come, and end.
+pub fn answer_from(
+    before: &[u8],
+    next: usize,
+    state: &mut [u8; STATE],
+    rows: &[u8],
+    count: usize,
+) -> bool
+    requires { ⌜ FewIn (now before) × StateFits (now state) × (rowSize (widthOf (now before)) * count ≤ length (now rows)) ⌝ }
+    ensures { λ r. ⌜ r ≡ answerFrom (beforeWith next (now (before .entry))) (now (state .entry)) count (now (rows .entry)) ⌝ }
 {
     let mut table: [u64; form_table::TABLE] = [0; form_table::TABLE];
-    form_table::fill_table(version, w, n, defs, parts, a, attrs, &mut table);
-    pass(version, w, n, defs, parts, a, attrs, &table, rows, count)
+    lay_table(before, &mut table);
+    if !walk_rows(before, next, &table, state, rows, count) {
+        return false;
+    }
+    walk_ends(before, &table, state)
+}
+
+/// The whole walk, from the start.
+pub fn rows_pass(before: &[u8], next: usize, rows: &[u8], count: usize) -> bool
+    requires { ⌜ FewIn (now before) × (rowSize (widthOf (now before)) * count ≤ length (now rows)) ⌝ }
+    ensures { λ r. ⌜ r ≡ verdict (beforeWith next (now (before .entry))) count (now (rows .entry)) ⌝ }
+{
+    let mut state = [0; STATE];
+    answer_from(before, next, &mut state, rows, count)
 }

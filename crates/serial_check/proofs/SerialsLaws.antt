@@ -1,47 +1,18 @@
--- The serials that the walk reads are those of the documents, and what it decides of them is the test of the check.
-use Prim.Native.Nat.{ℕ, zero, suc, _≤_, _<_}
+-- No two of the rows have one serial just where the serials read of them are distinct, as the contract says.
+use Prim.Native.Nat.{ℕ, zero, suc, _<_}
 use native.Mathlib.Omega.{arith}
 use native.Mathlib.Nat.{not-suc-le-zero, le-of-suc-le-suc}
-use mathlib.Core.Path.{_≡_, refl, ap, ap₂, _∙_, sym}
-use mathlib.Core.Bool.{Bool, true, false, _&&_, and-assoc}
-use mathlib.Core.List.{List, [], _∷_, _++_, map, map-append, List·Memᴰ, List·Memᴰ·head, List·Memᴰ·tail}
-use lib.Dec.{leb, ltb}
+use mathlib.Core.Path.{_≡_, refl, ap, _∙_, sym}
+use mathlib.Core.Bool.{Bool, true, false}
+use mathlib.Core.List.{List, [], _∷_, List·Memᴰ, List·Memᴰ·head, List·Memᴰ·tail}
 use lib.ListN.{length, drop, getD}
-use borrow.Author.Tests.{le-leb, lt-ltb, leb-true, ltb-true}
 use Rattle.layout.proofs.LayoutLaws.{record-first, record-after}
-use Rattle.rules.specs.Bytes.{Bytes, numbers, all}
+use Rattle.rules.specs.Bytes.{Bytes, numbers}
 use Rattle.rules.specs.Model.{Distinct, distinct}
-use Rattle.rules.specs.Store.{Form, Row, Forest, bare, tree}
-use Rattle.rules.specs.Preorder.{preorder}
-use Rattle.rules.specs.Layout.{rowSize, FlatRow, indexed}
-use Rattle.rules.specs.Decode.{readRow, readRows}
-use Rattle.rules.specs.WellFormed.{highestNumber}
-use Rattle.rules.specs.Passing.{serials, goodSerials}
-use Rattle.rules.proofs.Words.{and-both, and-split}
-use Rattle.rules.proofs.TestLaws.{all-test, distinct-test}
-use Rattle.serial_check.specs.Serials.{serialOfDeep, serialsOf, fitting, serialAtRow, Ranged, Apart}
-
--- ---- the serials of documents
--- the serials of documents are those of their rows in preorder
-pub serials-flat : (d : ℕ) (form : Form) (owner : Bytes) (docs : Forest Row) → serials docs ≡ map serialOfDeep (preorder d (indexed form owner docs))
-serials-flat d form owner bare = refl
-serials-flat d form owner (tree r b t) =
-    ap (λ (l : List ℕ). r .serial ∷ l)
-    (ap₂ (λ (x y : List ℕ). x ++ y) (serials-flat (suc d) form (r .name) b) (serials-flat d form owner t)
-    ∙ sym (map-append serialOfDeep (preorder (suc d) (indexed form (r .name) b)) (preorder d (indexed form owner t))))
-
--- .. and so are those of documents that were read
-pub serials-read : (d : ℕ) (ns cs : List Bytes) (f : Forest FlatRow) → serials (readRows ns cs f) ≡ map serialOfDeep (preorder d f)
-serials-read d ns cs bare = refl
-serials-read d ns cs (tree x b t) =
-    ap (λ (l : List ℕ). x .serial ∷ l)
-    (ap₂ (λ (x y : List ℕ). x ++ y) (serials-read (suc d) ns cs b) (serials-read d ns cs t) ∙ sym (map-append serialOfDeep (preorder (suc d) b) (preorder d t)))
-
--- the test of the check, of serials and of the next one
-pub good-serials-fit : (next : ℕ) (docs : Forest Row) → goodSerials next docs ≡ (fitting next (serials docs) && (leb 1 next && leb next highestNumber))
-unfolding goodSerials fitting
-good-serials-fit next docs =
-    sym (and-assoc (distinct numbers (serials docs)) (all (λ k. leb 1 k && ltb k next) (serials docs)) (leb 1 next && leb next highestNumber))
+use Rattle.rules.specs.Layout.{rowSize}
+use Rattle.rules.specs.Decode.{readRow}
+use Rattle.rules.proofs.TestLaws.{distinct-test}
+use Rattle.serial_check.specs.Serials.{serialOfDeep, serialsOf, serialAtRow, Apart}
 
 -- ---- the serials of a body, by number
 serials-length : (w count : ℕ) (rows : Bytes) → length (serialsOf w count rows) ≡ count
@@ -85,7 +56,7 @@ distinct-different (x ∷ xs) (n, d) (suc i) (suc k) h l e = distinct-different 
 
 -- no two of the rows have one serial, and their serials are distinct
 module _ (w : ℕ) (rows : Bytes) (count : ℕ) where
-  pub apart→ : Apart w rows count → distinct numbers (serialsOf w count rows) ≡ true
+  apart→ : Apart w rows count → distinct numbers (serialsOf w count rows) ≡ true
   apart→ s = distinct-test numbers (serialsOf w count rows) .1 (different-distinct (serialsOf w count rows) different)
     where
       different : Different (serialsOf w count rows)
@@ -93,52 +64,20 @@ module _ (w : ℕ) (rows : Bytes) (count : ℕ) where
           let n : k < count = omega (arith, serials-length w count rows) in
           s .apart i k h n (sym (serials-at w count rows i (omega arith)) ∙ e ∙ serials-at w count rows k n)
 
-  pub apart← : distinct numbers (serialsOf w count rows) ≡ true → Apart w rows count
+  apart← : distinct numbers (serialsOf w count rows) ≡ true → Apart w rows count
   apart← d = record { apart = apart (distinct-different (serialsOf w count rows) (distinct-test numbers (serialsOf w count rows) .0 d)) }
     where
       apart : Different (serialsOf w count rows) → (i k : ℕ) → i < k → k < count → serialAtRow w rows i ≡ serialAtRow w rows k → ⊥
       apart f i k h l e =
           f i k h (omega (arith, serials-length w count rows)) (serials-at w count rows i (omega arith) ∙ e ∙ sym (serials-at w count rows k l))
 
--- each of the rows has a serial in the range, and so has each of their serials
-module _ (w : ℕ) (rows : Bytes) (next count : ℕ) where
-  abbrev inRange : ℕ → Bool
-  inRange k = leb 1 k && ltb k next
-
-  pub ranged→ : Ranged w rows next count → all inRange (serialsOf w count rows) ≡ true
-  ranged→ s = all-test inRange (serialsOf w count rows) .1 ranged
-    where
-      ranged : (x : ℕ) → List·Memᴰ x (serialsOf w count rows) → inRange x ≡ true
-      ranged x m =
-          let (k, h, e) = member-at m in
-          let (a, b) = s .ranged k (omega (arith, serials-length w count rows)) in
-          let z : serialAtRow w rows k ≡ x = sym (serials-at w count rows k (omega (arith, serials-length w count rows))) ∙ e in
-          and-both (le-leb 1 x (omega arith)) (lt-ltb x next (omega arith))
-
-  pub ranged← : all inRange (serialsOf w count rows) ≡ true → Ranged w rows next count
-  ranged← a = record { ranged = ranged }
-    where
-      serial : ℕ → ℕ
-      serial k = getD (serialsOf w count rows) k 0
-
-      ranged : (k : ℕ) → k < count → (1 ≤ serialAtRow w rows k) × (serialAtRow w rows k < next)
-      ranged k h =
-          let m : List·Memᴰ (serial k) (serialsOf w count rows) = at-member (serialsOf w count rows) k (omega (arith, serials-length w count rows)) in
-          let (x, y) = and-split (leb 1 (serial k)) (ltb (serial k) next) (all-test inRange (serialsOf w count rows) .0 a (serial k) m) in
-          let z : serial k ≡ serialAtRow w rows k = serials-at w count rows k h in
-          (omega (arith, leb-true 1 (serial k) x), omega (arith, ltb-true (serial k) next y))
-
 -- what the walk decides is the test
-pub accepts : {w : ℕ} {rows : Bytes} {next count : ℕ} → Ranged w rows next count → Apart w rows count → true ≡ fitting next (serialsOf w count rows)
-unfolding fitting
-accepts {w} {rows} {next} {count} r a = sym (and-both (apart→ w rows count a) (ranged→ w rows next count r))
+pub accepts : {w : ℕ} {rows : Bytes} {count : ℕ} → Apart w rows count → true ≡ distinct numbers (serialsOf w count rows)
+accepts {w} {rows} {count} a = sym (apart→ w rows count a)
 
-pub refuses : {w : ℕ} {rows : Bytes} {next count : ℕ} → (Ranged w rows next count → Apart w rows count → ⊥) → false ≡ fitting next (serialsOf w count rows)
-unfolding fitting
-refuses {w} {rows} {next} {count} n = by (fitting next (serialsOf w count rows)) refl
+pub refuses : {w : ℕ} {rows : Bytes} {count : ℕ} → (Apart w rows count → ⊥) → false ≡ distinct numbers (serialsOf w count rows)
+refuses {w} {rows} {count} n = by (distinct numbers (serialsOf w count rows)) refl
   where
-    by : (b : Bool) → fitting next (serialsOf w count rows) ≡ b → false ≡ b
-    by true e =
-        let (d, a) = and-split (distinct numbers (serialsOf w count rows)) (all (inRange w rows next count) (serialsOf w count rows)) e in
-        absurd (n (ranged← w rows next count a) (apart← w rows count d))
+    by : (b : Bool) → distinct numbers (serialsOf w count rows) ≡ b → false ≡ b
+    by true e = absurd (n (apart← w rows count e))
     by false e = refl

@@ -13,7 +13,7 @@ use lib.Seq.{getD-set-same, getD-set-other}
 use borrow.Author.Tests.{ltb-true, ltb-false, eqb-true, eqb-false}
 use Rattle.rules.specs.Bytes.{Bytes}
 use Rattle.codec.proofs.Numbers.{zeros-read}
-use Rattle.serial_check.specs.Serials.{serialAtRow, Ranged, Apart}
+use Rattle.serial_check.specs.Serials.{serialAtRow, Apart}
 use Rattle.serial_check.specs.Trees.{placeBelow, Met, atOnce, there, Comes, last, later, Rising, Sought, Trees, Put}
 
 -- ---- walks
@@ -198,38 +198,17 @@ module _ {w : ℕ} {rows : Bytes} {heads below : List ℕ} {k : ℕ} (t : Trees 
       }
 
 -- ---- the walk over the rows
--- the first k rows are in their trees, and their serials in the range
-pub record Passed (w : ℕ) (rows : Bytes) (next count : ℕ) (heads below : List ℕ) (k : ℕ) : Type 0 where
-  pub trees : Trees w rows heads below k
-  pub range : Ranged w rows next k
-  pub within : k ≤ count
+apart-fewer : {w : ℕ} {rows : Bytes} {m n : ℕ} → m ≤ n → Apart w rows n → Apart w rows m
+apart-fewer l a = record { apart = λ i k h g e. a .apart i k h (omega arith) e }
 
-pub passed-none : (w : ℕ) (rows : Bytes) (next count : ℕ) → Passed w rows next count (replicate 4096 0) (replicate 16384 0) 0
-passed-none w rows next count = record { trees = trees-start w rows; range = record { ranged = λ k h. absurd (not-suc-le-zero h) }; within = omega arith }
+-- a row that could not be put: two have one serial
+pub put-refutes : {w : ℕ} {rows : Bytes} {heads below : List ℕ} {k count : ℕ} {b : Bool} → Put w rows heads below k b → b ≡ false → k < count → Apart w rows count → ⊥
+put-refutes p e l a = p .no e (apart-fewer l a)
 
--- row k, whose serial is s
-module _ {w : ℕ} {rows : Bytes} {next count : ℕ} {heads below : List ℕ} {k : ℕ} (c : Passed w rows next count heads below k) (g : k < count)
-    (s : ℕ) (es : s ≡ serialAtRow w rows k) where
-  pub passed-zero : s ≡ 0 → Ranged w rows next count → Apart w rows count → ⊥
-  passed-zero e r a = omega (arith, r .ranged k g .0)
+-- a row that was put: the trees of a row more
+pub put-more : {w : ℕ} {rows : Bytes} {heads below : List ℕ} {k : ℕ} {b : Bool} → Put w rows heads below k b → b ≡ true → Trees w rows heads below (k + 1)
+put-more p e = rw add-one (p .yes e)
 
-  pub passed-past : next ≤ s → Ranged w rows next count → Apart w rows count → ⊥
-  passed-past l r a = omega (arith, r .ranged k g .1)
-
-  pub passed-twice : {heads′ below′ : List ℕ} {b : Bool} → Put w rows heads′ below′ k b → b ≡ false → Ranged w rows next count → Apart w rows count → ⊥
-  passed-twice p e r a = p .no e (record { apart = λ i j h l q. a .apart i j h (omega arith) q })
-
-  pub passed-more : {heads′ below′ : List ℕ} {b : Bool} → (s ≡ 0 → ⊥) → s < next → Put w rows heads′ below′ k b → b ≡ true → Passed w rows next count heads′ below′ (k + 1)
-  passed-more z l p e =
-      rw add-one
-      (record {
-        trees = p .yes e;
-        range = record { ranged = each-more k (c .range .ranged) (rw (← es) (omega arith, l)) };
-        within = g;
-      })
-
-pub passed-ranged : {w : ℕ} {rows : Bytes} {next count : ℕ} {heads below : List ℕ} {k : ℕ} → Passed w rows next count heads below k → count ≤ k → Ranged w rows next count
-passed-ranged c l = record { ranged = λ k h. c .range .ranged k (omega arith) }
-
-pub passed-apart : {w : ℕ} {rows : Bytes} {next count : ℕ} {heads below : List ℕ} {k : ℕ} → Passed w rows next count heads below k → count ≤ k → Apart w rows count
-passed-apart c l = record { apart = λ i k h m e. c .trees .distinct .apart i k h (omega arith) e }
+-- past the last row no two are alike
+pub trees-apart : {w : ℕ} {rows : Bytes} {heads below : List ℕ} {k count : ℕ} → Trees w rows heads below k → count ≤ k → Apart w rows count
+trees-apart t l = apart-fewer l (t .distinct)

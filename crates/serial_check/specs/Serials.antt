@@ -1,11 +1,8 @@
--- The serials of tree rows: from 1, below the next serial, no two alike.
-use Prim.Native.Nat.{ℕ, _<_, _≤_}
+-- The serials of tree rows: no two alike.
+use Prim.Native.Nat.{ℕ, _<_}
 use mathlib.Core.Path.{_≡_}
-use mathlib.Core.Bool.{Bool, _&&_}
 use mathlib.Core.List.{List, map}
-use lib.Dec.{leb, ltb}
-use Rattle.rules.specs.Bytes.{Bytes, numbers, all}
-use Rattle.rules.specs.Model.{distinct}
+use Rattle.rules.specs.Bytes.{Bytes}
 use Rattle.rules.specs.Preorder.{Deep}
 use Rattle.rules.specs.Layout.{rowSize, FlatRow}
 use Rattle.rules.specs.Decode.{readRow, readMany}
@@ -18,18 +15,10 @@ serialOfDeep r = r .row .serial
 unfoldable pub serialsOf : ℕ → ℕ → Bytes → List ℕ
 serialsOf w count rows = map serialOfDeep (readMany readRow (rowSize w) count rows)
 
--- 'Serials are distinct, from 1, below the next serial'
-unfoldable pub fitting : ℕ → List ℕ → Bool
-fitting next ks = distinct numbers ks && all (λ k. leb 1 k && ltb k next) ks
-
 -- ---- by number
 -- the serial of row number k, counted from 0, at a width of a value
 unfoldable pub serialAtRow : ℕ → Bytes → ℕ → ℕ
 serialAtRow w rows k = serialOfDeep (readRow (recordAt (rowSize w) k rows))
-
--- the serials of the first n rows are from 1 and below the next serial
-pub record Ranged (w : ℕ) (rows : Bytes) (next n : ℕ) : Type 0 where
-  pub ranged : (k : ℕ) → k < n → (1 ≤ serialAtRow w rows k) × (serialAtRow w rows k < next)
 
 -- no two of the first n rows have one serial
 pub record Apart (w : ℕ) (rows : Bytes) (n : ℕ) : Type 0 where

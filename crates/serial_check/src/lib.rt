@@ -1,9 +1,11 @@
-//! The serials of the tree rows of a store: from 1, below the next serial, no two alike.
+//! The serials of the tree rows of a store: no two alike.
 use layout::MAX_ROWS;
 ghost use mathlib.Core.Path.{_≡_};
 ghost use Prim.Native.Nat.{_<_, _≤_};
+ghost use Rattle.rules.specs.Bytes.{numbers};
+ghost use Rattle.rules.specs.Model.{distinct};
 ghost use Rattle.layout.specs.Bodies.{Width};
-ghost use Rattle.serial_check.specs.Serials.{serialsOf, fitting, serialAtRow};
+ghost use Rattle.serial_check.specs.Serials.{serialsOf, serialAtRow};
 ghost use Rattle.serial_check.specs.Trees.{Rising, Sought, Trees, Put};
 
 // Four for each row.
@@ -65,24 +67,18 @@ fn put_in_tree(
     true
 }
 
-/// Whether the serials of the first `count` rows fit: each from 1 and below `next`, no two alike.
+/// Whether no two of the first `count` rows have one serial.
 // Rows whose serials have the same remainder by 4096 are in one tree, below its root by the other bits of their
 // serials, two at a time: a row is compared only with those on its way, at most 11.
-pub fn serials_fit(w: usize, rows: &[u8], count: usize, next: u32) -> bool
+pub fn serials_differ(w: usize, rows: &[u8], count: usize) -> bool
     requires { ⌜ Width w × (count ≤ 4096) ⌝ }
-    ensures { λ r. ⌜ r ≡ fitting next (serialsOf w count (now (rows .entry))) ⌝ }
+    ensures { λ r. ⌜ r ≡ distinct numbers (serialsOf w count (now (rows .entry))) ⌝ }
 {
     let mut heads: [u16; MAX_ROWS] = [0; MAX_ROWS];
     let mut below: [u16; PLACES] = [0; PLACES];
     let mut k = 0;
     while k < count {
         let s = serial_at(w, rows, k);
-        if s == 0 {
-            return false;
-        }
-        if s >= next {
-            return false;
-        }
         if !put_in_tree(w, rows, &mut heads, &mut below, k, s) {
             return false;
         }

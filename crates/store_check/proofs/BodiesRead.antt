@@ -22,10 +22,10 @@ use Rattle.form_check.specs.Bodies.{definitions, attributes, formOfBodies}
 use Rattle.model_check.specs.Particles.{particlesRead}
 use Rattle.form_check.proofs.Reading.{definitions-length, attributes-length}
 use Rattle.layout.specs.Bodies.{recordAt, widthOf, attributesIn, treeRowsIn}
-use Rattle.form_index.specs.Reading.{definitionIn, attributeIn, modelPart}
+use Rattle.form_index.specs.Reading.{definitionIn, attributeIn, modelPart, byIndex}
 use Rattle.form_index.specs.Reading as bytes
 use Rattle.store_check.specs.Reading.{partAt, noFlatDefinition, noAttribute, entryOf, formAt, flatIndexForm}
-use Rattle.store_check.specs.Check.{FormPasses, FormIn, byIndex, RowsPass, SerialsIn}
+use Rattle.store_check.specs.Check.{FormPasses, FormIn, RowsPass, SerialsIn}
 use Rattle.store_check.proofs.FormLaws.{Laid}
 use Rattle.store_check.proofs.IndexReads.{definition-in, attribute-in, model-in, index-agrees}
 use Rattle.store_check.proofs.StringChecks.{Headed, laid-in, same-definitions, same-particles, same-attributes, same-rows, passes-in}

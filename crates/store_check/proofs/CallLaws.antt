@@ -1,38 +1,45 @@
 -- What the calls of the check find, put together.
-use Prim.Native.Nat.{ℕ, _*_, _<_, _≤_}
+use Prim.Native.Nat.{ℕ, _+_, _*_, _<_, _≤_}
 use native.Mathlib.Omega.{arith}
 use mathlib.Core.Path.{_≡_, refl, ap, _∙_, sym, subst}
 use mathlib.Core.Logic.{_↔_}
 use mathlib.Core.Bool.{Bool, true, false, not, false≢true}
 use mathlib.Core.List.{List·Memᴰ·not-nil}
-use lib.ListN.{length, getD}
+use lib.ListN.{length, getD, take}
 use mir.Syntax.{w8}
 use mir.Val.{Fits}
 use borrow.Author.Tests.{not-true, not-false}
-use Rattle.rules.specs.Bytes.{Bytes}
-use Rattle.rules.specs.Model.{Distinct, distinct, names}
+use Rattle.rules.specs.Bytes.{Bytes, numbers, all}
+use Rattle.rules.specs.Model.{distinct}
 use Rattle.rules.specs.Store.{bare}
-use Rattle.rules.specs.Layout.{definitionSize, attributeSize, rowSize}
-use Rattle.rules.specs.Decode.{numberAt, readRow, readMany, definitionCount, particleCount, attributeCount, rowCount}
+use Rattle.rules.specs.Layout.{headerSize, definitionSize, particleSize, attributeSize, rowSize}
+use Rattle.rules.specs.Decode.{numberAt, rowCount}
 use Rattle.rules.specs.Passing.{passes}
-use Rattle.rules.proofs.Words.{same-truth}
+use Rattle.rules.proofs.Words.{same-truth, and-both, and-split}
+use Rattle.rules.proofs.BooleanLaws.{all-map}
 use Rattle.layout.specs.declared.Shape.{Shape}
-use Rattle.layout.specs.Bodies.{Width, widthOf, shapeOf, ShapeOf, definitionBody, particleBody, attributeBody, rowBody, definitionsIn, particlesIn, attributesIn, treeRowsIn}
+use Rattle.layout.specs.Bodies.{Width, Place, widthOf, shapeOf, ShapeOf, attributesStart, rowsStart, rowBody, treeRowsIn}
 use Rattle.layout.proofs.LayoutLaws.{by-shape}
-use Rattle.records.specs.Records.{definitionFits, attributeFits, rowFits, eachFits, headerFits}
-use Rattle.records.proofs.RecordLaws.{small-of}
+use Rattle.records.specs.Records.{definitionFits, attributeFits, serialFits, eachFits, headerFits}
+use Rattle.records.proofs.RecordLaws.{small-of, small-at}
 use Rattle.form_check.specs.FormTests.{bodiesFit}
 use Rattle.form_check.specs.Bodies.{Bodies, formOfBodies}
 use Rattle.circle_check.specs.declared.Heights.{Heights}
 use Rattle.circle_check.specs.Members.{membersIn}
 use Rattle.circle_check.specs.Deep.{Ranked}
-use Rattle.serial_check.specs.Serials.{serialsOf, fitting}
-use Rattle.form_index.specs.Indices.{Documents, Everywhere}
-use Rattle.form_index.specs.Reading.{indexForm}
-use Rattle.store_check.specs.Check.{FormPasses, FormIn, byIndex, RowsPass, RowsIn, SerialsIn}
+use Rattle.serial_check.specs.Serials.{serialOfDeep, serialsOf}
+use Rattle.form_index.specs.Indices.{Everywhere}
+use Rattle.form_index.specs.Reading.{byIndex}
+use Rattle.form_index.proofs.CutLaws.{Cut, cutOf, CutOf}
+use Rattle.row_step.specs.Steps.{Before}
+use Rattle.row_check.specs.Verdict.{rowsRead, verdict, SoundForm, RowsConform}
+use Rattle.row_check.specs.Walking.{bytesBefore, beforeWith, beforeIn, FewIn}
+use Rattle.row_check.proofs.PassLaws.{rows-within, verdict-says}
+use Rattle.row_check.proofs.BeforeLaws.{width-before, before-same, few-before}
+use Rattle.store_check.specs.Check.{FormPasses, FormIn, walkAnswer, serialsDiffer, RowsPass, fitting, SerialsIn}
 use Rattle.store_check.proofs.FormLaws.{Laid, circle-fit}
-use Rattle.store_check.proofs.StringChecks.{Headed, header, laid-in, rows-whole, passes-header, passes-in}
-use Rattle.store_check.proofs.IndexReads.{index-agrees, index-once}
+use Rattle.store_check.proofs.StringChecks.{Headed, header, laid-in, rows-whole, rows-small, passes-header, passes-in}
+use Rattle.store_check.proofs.IndexReads.{index-agrees, index-once, index-deep}
 use Rattle.layout.specs.Fields.{nextAt, versionAt}
 
 -- ---- tests
@@ -54,48 +61,7 @@ pub form-by : {w n : ℕ} {defs : Bytes} {p : ℕ} {parts : Bytes} {a : ℕ} {at
     → bodiesFit (formOfBodies w n defs p parts a attrs) ≡ true → Ranked n (membersIn defs parts) r → (r .fit ≡ true) ↔ FormPasses w n defs p parts a attrs
 form-by laid d c b k = (λ e. record { definitions = d; attributes = c; bodies = b; circle = circle-fit laid d c b k .0 e }, λ x. circle-fit laid d c b k .1 (x .circle))
 
--- the version, the counts and the bodies of a form
-pub record Cut : Type 0 where
-  pub version : ℕ
-  pub w : ℕ
-  pub n : ℕ
-  pub defs : Bytes
-  pub p : ℕ
-  pub parts : Bytes
-  pub a : ℕ
-  pub attrs : Bytes
-
-abbrev pub cutOf : Bytes → Cut
-cutOf bs = record {
-  version = numberAt versionAt 4 bs;
-  w = widthOf bs;
-  n = definitionCount bs;
-  defs = definitionsIn bs;
-  p = particleCount bs;
-  parts = particlesIn bs;
-  a = attributeCount bs;
-  attrs = attributesIn bs;
-}
-
--- rows for the form that is cut out
-abbrev RowsAt : Cut → ℕ → Bytes → Type 0
-RowsAt c m s = RowsPass (c .w) (indexForm (c .version) (c .w) (c .n) (c .defs) (c .parts) (c .attrs) (c .a)) m s
-
-pub record CutOf (bs : Bytes) (version w n : ℕ) (defs : Bytes) (p : ℕ) (parts : Bytes) (a : ℕ) (attrs : Bytes) : Type 0 where
-  pub same : cutOf bs ≡ record { version = version; w = w; n = n; defs = defs; p = p; parts = parts; a = a; attrs = attrs }
-
--- the parts that a shape cuts out are those of the string
 module _ {bs : Bytes} {s : Shape} (x : ShapeOf bs s) where
-  pub cut-of : {defs parts attrs : Bytes} → defs ≡ definitionBody s bs → parts ≡ particleBody s bs → attrs ≡ attributeBody s bs
-      → CutOf bs (s .version) (s .width) (s .definitions) defs (s .particles) parts (s .attributes) attrs
-  unfolding shapeOf
-  cut-of d p a =
-      let z : shapeOf bs ≡ s = sym (x .is) in
-      let d′ : definitionsIn bs ≡ _ = sym (by-shape definitionBody bs x d) in
-      let p′ : particlesIn bs ≡ _ = sym (by-shape particleBody bs x p) in
-      let a′ : attributesIn bs ≡ _ = sym (by-shape attributeBody bs x a) in
-      record { same = λ i. record { version = z i .version; w = z i .width; n = z i .definitions; defs = d′ i; p = z i .particles; parts = p′ i; a = z i .attributes; attrs = a′ i } }
-
   pub rows-counted : s .rows ≡ rowCount bs
   unfolding shapeOf
   rows-counted = ap (λ (z : Shape). z .rows) (x .is)
@@ -106,6 +72,11 @@ module _ {bs : Bytes} {s : Shape} (x : ShapeOf bs s) where
   pub width-is : s .width ≡ widthOf bs
   unfolding shapeOf
   width-is = ap (λ (z : Shape). z .width) (x .is)
+
+  -- the bytes before the tree body
+  pub before-of : {at : ℕ} {r : Bytes} → Place (headerSize + definitionSize * s .definitions + particleSize * s .particles + attributeSize (s .width) * s .attributes) at → r ≡ take at bs → r ≡ bytesBefore bs
+  unfolding rowsStart attributesStart
+  before-of p e = e ∙ ap (λ (k : ℕ). take k bs) (p .value) ∙ ap (λ (z : Shape). take (rowsStart z) bs) (x .is)
 
 -- the header, tested at the width of the shape
 pub header-kept : {bs : Bytes} {s : Shape} → ShapeOf bs s → {b : Bool} → not b ≡ false → b ≡ headerFits (s .width) bs → headerFits (widthOf bs) bs ≡ true
@@ -127,39 +98,29 @@ module _ {bs : Bytes} {version w n : ℕ} {defs : Bytes} {p : ℕ} {parts : Byte
     λ x. g (subst (λ (c : Cut). FormPasses (c .w) (c .n) (c .defs) (c .p) (c .parts) (c .a) (c .attrs)) (k .same) (x .passes)),
   )
 
-  -- ---- the rows
-  module _ {count : ℕ} {rows : Bytes} (u : count ≡ rowCount bs) (v : rows ≡ treeRowsIn bs) where
-    pub rows-asked : Width w → FormIn bs → Width w × (n ≤ 64) × (a ≤ 64) × (rowSize w * count ≤ length rows) × ((i : ℕ) → i < n → Distinct (names (indexForm version w n defs parts attrs a .model i)))
-    rows-asked narrow x =
-        let z : cutOf bs ≡ given = k .same in
-        let e : rowSize w * count ≡ rowSize (widthOf bs) * rowCount bs = λ i. rowSize (sym z i .w) * u i in
-        let form : FormPasses w n defs p parts a attrs = subst (λ (c : Cut). FormPasses (c .w) (c .n) (c .defs) (c .p) (c .parts) (c .a) (c .attrs)) (k .same) (x .passes) in
-        (narrow, cut-laid .bodies .definitionBody .few, cut-laid .bodies .attributeBody .few, omega (arith, ap (λ (s : Bytes). length s) v, rows-whole h), index-once cut-laid form version)
+-- ---- the rows
+module _ {bs : Bytes} {s : Shape} (h : Headed bs) (x : ShapeOf bs s) where
+  pub rows-asked : {before rows : Bytes} → before ≡ bytesBefore bs → rows ≡ treeRowsIn bs → FewIn before × (rowSize (widthOf before) * s .rows ≤ length rows)
+  rows-asked {before} {rows} e v =
+      let room : rowSize (widthOf before) * s .rows ≡ rowSize (widthOf bs) * rowCount bs =
+      (λ i. rowSize ((ap widthOf e ∙ width-before bs) i) * rows-counted x i) in (
+        subst FewIn (sym e) (few-before bs (header h .fewDefinitions) (header h .fewAttributes)),
+        omega (arith, ap (λ (t : Bytes). length t) v, rows-whole h),
+      )
 
-    pub rows-in : {r : Bool}
-        → (r ≡ true)
-        ↔ ((eachFits (rowFits w) (rowSize w) count rows ≡ true) × Documents (indexForm version w n defs parts attrs a) (readMany readRow (rowSize w) count rows))
-        → (r ≡ true) ↔ RowsIn bs
-    rows-in {r} (f, g) = (
-      λ e. let (x, y) = f e in record { passes = back (record { fields = x; documents = y }) },
-      λ x. let y : RowsPass w (indexForm version w n defs parts attrs a) count rows = there (x .passes) in g (y .fields, y .documents),
-    )
-      where
-        back : RowsAt given count rows → RowsAt (cutOf bs) (rowCount bs) (treeRowsIn bs)
-        back y = subst (λ (c : Cut). RowsAt c (rowCount bs) (treeRowsIn bs)) (sym (k .same)) (subst (λ (s : Bytes). RowsAt given (rowCount bs) s) v (subst (λ (m : ℕ). RowsAt given m rows) u y))
+  pub rows-answer : {before : Bytes} {next : ℕ} {rows : Bytes} {r : Bool} → before ≡ bytesBefore bs → next ≡ numberAt nextAt 4 before → rows ≡ treeRowsIn bs
+      → r ≡ verdict (beforeWith next before) (s .rows) rows → r ≡ walkAnswer bs
+  unfolding walkAnswer
+  rows-answer {before} {next} {rows} e n v q =
+      q ∙ (λ i. verdict (beforeWith ((n ∙ ap (λ (t : Bytes). numberAt nextAt 4 t) e) i) (e i)) (rows-counted x i) (v i))
 
-        there : RowsAt (cutOf bs) (rowCount bs) (treeRowsIn bs) → RowsAt given count rows
-        there y = subst (λ (m : ℕ). RowsAt given m rows) (sym u) (subst (λ (s : Bytes). RowsAt given (rowCount bs) s) (sym v) (subst (λ (c : Cut). RowsAt c (rowCount bs) (treeRowsIn bs)) (k .same) y))
+  -- ---- serials
+  pub serials-asked : Width (s .width) × (s .rows ≤ 4096)
+  serials-asked = (x .sized .width, omega (arith, header h .fewRows, rows-counted x))
 
--- ---- serials
-module _ {bs : Bytes} (h : Headed bs) {count : ℕ} (u : count ≡ rowCount bs) where
-  pub serials-asked : count ≤ 4096
-  serials-asked = omega (arith, header h .fewRows)
-
-  pub serials-in : {w next : ℕ} {rows : Bytes} {r : Bool} → w ≡ widthOf bs → next ≡ numberAt nextAt 4 bs → rows ≡ treeRowsIn bs → r ≡ fitting next (serialsOf w count rows) → (r ≡ true) ↔ SerialsIn bs
-  serials-in {w} {next} {rows} {r} v x y e =
-      let q : r ≡ fitting (numberAt nextAt 4 bs) (serialsOf (widthOf bs) (rowCount bs) (treeRowsIn bs)) = e ∙ (λ i. fitting (x i) (serialsOf (v i) (u i) (y i))) in
-      (λ z. record { fits = sym q ∙ z }, λ z. q ∙ z .fits)
+  pub serials-in : {rows : Bytes} {r : Bool} → rows ≡ treeRowsIn bs → r ≡ distinct numbers (serialsOf (s .width) (s .rows) rows) → r ≡ serialsDiffer bs
+  unfolding serialsDiffer
+  serials-in y e = e ∙ (λ i. distinct numbers (serialsOf (width-is x i) (rows-counted x i) (y i)))
 
 -- ---- all
 pub headless : {bs : Bytes} {s : Shape} → ShapeOf bs s → {b : Bool} → not b ≡ true → b ≡ headerFits (s .width) bs → false ≡ passes bs
@@ -183,12 +144,56 @@ module _ {bs : Bytes} (h : Headed bs) where
   pub formless : {b : Bool} → not b ≡ true → (b ≡ true) ↔ FormIn bs → false ≡ passes bs
   formless {b} t (f, g) = not-passed (λ e. false≢true (sym (not-true b t) ∙ g (all-in .0 e .0)))
 
-  pub rowless : {b : Bool} → not b ≡ true → (b ≡ true) ↔ RowsIn bs → false ≡ passes bs
-  rowless {b} t (f, g) = not-passed (λ e. false≢true (sym (not-true b t) ∙ g (record { passes = all-in .0 e .1 })))
+  -- what the walk asks of a form
+  pub sound-in : FormIn bs → SoundForm (byIndex bs)
+  sound-in x =
+      record {
+        definitions = header h .fewDefinitions;
+        attributes = header h .fewAttributes;
+        once = index-once (laid-in h) (x .passes) (numberAt versionAt 4 bs);
+        chains = index-deep (laid-in h) (x .passes) (numberAt versionAt 4 bs);
+      }
 
-  pub passed : {a b r : Bool} → not a ≡ false → (a ≡ true) ↔ FormIn bs → not b ≡ false → (b ≡ true) ↔ RowsIn bs → (r ≡ true) ↔ SerialsIn bs → r ≡ passes bs
+  -- THE WALK: its answer is that the rows conform
+  pub answer-says : FormIn bs → (walkAnswer bs ≡ true) ↔ RowsConform (beforeIn bs) (rowCount bs) (treeRowsIn bs)
+  unfolding walkAnswer
+  answer-says x =
+      let same : verdict (beforeIn (bytesBefore bs)) (rowCount bs) (treeRowsIn bs) ≡ verdict (beforeIn bs) (rowCount bs) (treeRowsIn bs) =
+      ap (λ (b : Before). verdict b (rowCount bs) (treeRowsIn bs)) (before-same bs) in
+      let says = verdict-says (beforeIn bs) (rowCount bs) (treeRowsIn bs) (sound-in x) (rows-within (widthOf bs) (rowCount bs) (treeRowsIn bs) (small-at (rows-small h))) in
+      (λ e. says .0 (sym same ∙ e), λ r. same ∙ says .1 r)
+
+  -- the serials, in the range and different
+  range-of : all (λ x. serialFits (numberAt nextAt 4 bs) (x .row .serial)) (rowsRead (widthOf bs) (rowCount bs) (treeRowsIn bs))
+      ≡ all (serialFits (numberAt nextAt 4 bs)) (serialsOf (widthOf bs) (rowCount bs) (treeRowsIn bs))
+  unfolding serialsOf
+  range-of = sym (all-map (serialFits (numberAt nextAt 4 bs)) serialOfDeep (rowsRead (widthOf bs) (rowCount bs) (treeRowsIn bs)))
+
+  conform-of : RowsPass (widthOf bs) (byIndex bs) (rowCount bs) (treeRowsIn bs) → SerialsIn bs → RowsConform (beforeIn bs) (rowCount bs) (treeRowsIn bs)
+  unfolding fitting
+  conform-of r k = record { fields = r .fields; serials = range-of ∙ and-split (distinct numbers (serialsOf (widthOf bs) (rowCount bs) (treeRowsIn bs))) _ (k .fits) .1; documents = r .documents }
+
+  differ-of : SerialsIn bs → serialsDiffer bs ≡ true
+  unfolding serialsDiffer fitting
+  differ-of k = and-split (distinct numbers (serialsOf (widthOf bs) (rowCount bs) (treeRowsIn bs))) _ (k .fits) .0
+
+  serials-of : RowsConform (beforeIn bs) (rowCount bs) (treeRowsIn bs) → serialsDiffer bs ≡ true → SerialsIn bs
+  unfolding serialsDiffer fitting
+  serials-of r e = record { fits = and-both e (sym range-of ∙ r .serials) }
+
+  -- THE CHECK of a string whose header fits
+  pub check-says : (passes bs ≡ true) ↔ (FormIn bs × (walkAnswer bs ≡ true) × (serialsDiffer bs ≡ true))
+  check-says = (
+    λ e. let (x, r, k) = all-in .0 e in (x, answer-says x .1 (conform-of r k), differ-of k),
+    λ (x, a, e). let r = answer-says x .0 a in all-in .1 (x, record { fields = r .fields; documents = r .documents }, serials-of r e),
+  )
+
+  pub rowless : {b : Bool} → not b ≡ true → b ≡ walkAnswer bs → false ≡ passes bs
+  rowless {b} t q = not-passed (λ e. false≢true (sym (not-true b t) ∙ q ∙ check-says .0 e .1))
+
+  pub passed : {a b r : Bool} → not a ≡ false → (a ≡ true) ↔ FormIn bs → not b ≡ false → b ≡ walkAnswer bs → r ≡ serialsDiffer bs → r ≡ passes bs
   passed {a} {b} {r} s x t y z =
-      same-truth r (passes bs) (λ e. all-in .1 (x .0 (not-false a s), y .0 (not-false b t) .passes, z .0 e)) (λ e. z .1 (all-in .0 e .2))
+      same-truth r (passes bs) (λ e. check-says .1 (x .0 (not-false a s), sym y ∙ not-false b t, sym z ∙ e)) (λ e. z ∙ check-says .0 e .2)
 
   -- ---- without rows the form decides
   none-fit : rowCount bs ≡ 0 → RowsPass (widthOf bs) (byIndex bs) (rowCount bs) (treeRowsIn bs)

@@ -140,7 +140,8 @@ module _ {w n : ℕ} {defs : Bytes} {p : ℕ} {parts : Bytes} {a : ℕ} {attrs :
         shaped = all-shaped (length (definitions n defs)) (definitions n defs) (particlesRead p parts) (fields-fit .definitions) models;
       }
 
-      members-are : (i : ℕ) → i < n → membersIn defs parts i ≡ elementsIn (partAt i (definitions n defs) (particlesRead p parts))
+      -- the members of a definition are the elements of its part
+      pub members-are : (i : ℕ) → i < n → membersIn defs parts i ≡ elementsIn (partAt i (definitions n defs) (particlesRead p parts))
       unfolding definitions particlesRead
       members-are i l =
           members-read defs parts n p start-all long i l ∙ ap elementsIn (model-is-part i (definitions n defs) (particlesRead p parts))

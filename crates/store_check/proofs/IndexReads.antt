@@ -2,6 +2,7 @@
 use Prim.Native.Nat.{ℕ, _+_, _*_, _/_, _<_, _≤_}
 use native.Mathlib.Omega.{arith}
 use mathlib.Core.Path.{_≡_, refl, ap, ap₂, _∙_, sym, subst}
+use mathlib.Core.Bool.{true}
 use mathlib.Core.List.{List, List·Memᴰ}
 use lib.ListN.{length, take, drop, getD, length-take, length-drop}
 use Rattle.rules.specs.Bytes.{Bytes}
@@ -16,6 +17,10 @@ use Rattle.model.specs.Members.{indexMembers, particlesOf, membersFrom, allMemb
 use Rattle.form_check.specs.Bodies.{definitions, attributes, formOfBodies}
 use Rattle.model_check.specs.Particles.{particlesRead}
 use Rattle.form_check.proofs.Reading.{definitions-length, attributes-length, particles-part}
+use Rattle.circle_check.specs.Members.{membersIn}
+use Rattle.circle_check.specs.Deep.{deepIndex}
+use Rattle.circle_check.proofs.RoundLaws.{deep-index-same}
+use Rattle.circle_check.proofs.CircleLaws.{fit-acyclic}
 use Rattle.form_index.specs.Reading.{definitionIn, attributeIn, particlesBefore, modelPart}
 use Rattle.form_index.specs.Reading as bytes
 use Rattle.store_check.specs.Reading.{FieldsFit, partAt, noFlatDefinition, noAttribute, entryOf, formAt, Agrees}
@@ -25,7 +30,7 @@ use Rattle.store_check.proofs.ModelReads.{ModelRead, read-names}
 use Rattle.store_check.proofs.FormReads.{form-size, form-apart, model-at}
 use Rattle.store_check.proofs.FormGood.{form-agrees}
 use Rattle.store_check.proofs.Parts.{before-within, before-is, part-cut}
-use Rattle.store_check.proofs.FormLaws.{Laid, fields-fit, before-all}
+use Rattle.store_check.proofs.FormLaws.{Laid, fields-fit, before-all, members-are, members-indexed}
 
 -- ---- models
 -- of c particles after b others
@@ -100,12 +105,27 @@ module _ {w n : ℕ} {defs : Bytes} {p : ℕ} {parts : Bytes} {a : ℕ} {attrs :
       short : (j : ℕ) → j < length (allAttributes 0 (unflat f .form)) → j < a
       short j l = omega (arith, agrees version .attributes, attributes-length w a attrs)
 
+  -- what the test of definition i's part says of its model
+  read-in : (i : ℕ) → i < n → ModelRead (unflat f .form) (form-apart w f fields (x .bodies)) (partAt i (definitions n defs) (particlesRead p parts))
+  read-in i l = model-at w f fields (x .bodies) i (omega (arith, form-count))
+
   -- ---- no model names an element twice
   once-in : (i : ℕ) → i < n → Distinct (names (indexMembers (build (partAt i (definitions n defs) (particlesRead p parts)) 0)))
   once-in i l =
-      let r : ModelRead (unflat f .form) (form-apart w f fields (x .bodies)) (partAt i (definitions n defs) (particlesRead p parts)) = model-at w f fields (x .bodies) i (omega (arith, form-count)) in
       distinct-unmap (λ j. nameAt j (namesOf (unflat f .form))) (names (indexMembers (build (partAt i (definitions n defs) (particlesRead p parts)) 0)))
-      (subst (λ (ns : List Bytes). Distinct ns) (read-names (namesOf (unflat f .form)) (build (partAt i (definitions n defs) (particlesRead p parts)) 0)) (r .once))
+      (subst (λ (ns : List Bytes). Distinct ns) (read-names (namesOf (unflat f .form)) (build (partAt i (definitions n defs) (particlesRead p parts)) 0)) (read-in i l .once))
 
   pub index-once : (version i : ℕ) → i < n → Distinct (names (bytes.indexForm version w n defs parts attrs a .model i))
   index-once version i l = subst (λ (m : Members ℕ). Distinct (names m)) (sym (model-in i l)) (once-in i l)
+
+  -- ---- no chain of members is longer than the definitions are many
+  pub index-deep : (version i : ℕ) → i < n → deepIndex (λ k. names (bytes.indexForm version w n defs parts attrs a .model k)) n n i ≡ true
+  index-deep version i l = deep-index-same (λ k. names (allMembers (modelPart defs parts k))) (membersIn defs parts) n same n i ∙ deep i l
+    where
+      same : (k : ℕ) → k < n → names (allMembers (modelPart defs parts k)) ≡ membersIn defs parts k
+      same k g =
+          ap (λ (m : Members ℕ). names m) (model-in k g) ∙ read-in k g .indices ∙ sym (members-are laid (x .definitions) (x .attributes) (x .bodies) k g)
+
+      deep : (k : ℕ) → k < n → deepIndex (membersIn defs parts) n n k ≡ true
+      deep = subst (λ (m : ℕ). (k : ℕ) → k < m → deepIndex (membersIn defs parts) m m k ≡ true) form-count
+          (fit-acyclic (members-indexed laid (x .definitions) (x .attributes) (x .bodies)) .1 (x .circle))

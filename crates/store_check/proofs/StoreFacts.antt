@@ -22,7 +22,7 @@ use Rattle.lookup.specs.Bodies.{bodiesOf, recordsFrom}
 use Rattle.layout.specs.Bodies.{widthOf, treeRowsIn, WidthIn, Number}
 use Rattle.lookup.proofs.Laws.{from-all}
 use Rattle.store_check.specs.Reading.{Agrees}
-use Rattle.store_check.specs.Check.{byIndex}
+use Rattle.form_index.specs.Reading.{byIndex}
 use Rattle.store_check.proofs.StringChecks.{Headed, header, laid-in, passes-header, passes-in, same-form, same-rows}
 use Rattle.store_check.proofs.IndexReads.{index-agrees}
 use Rattle.store_laws.specs.Stores.{storeIn}

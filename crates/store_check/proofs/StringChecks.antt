@@ -31,11 +31,11 @@ use Rattle.form_check.specs.FormTests.{bodiesFit}
 use Rattle.form_check.specs.Bodies.{definitions, attributes, formOfBodies}
 use Rattle.model_check.specs.Particles.{particlesRead}
 use Rattle.form_check.proofs.Laws.{bodies-only}
-use Rattle.serial_check.specs.Serials.{serialOfDeep, serialsOf, fitting}
+use Rattle.serial_check.specs.Serials.{serialOfDeep, serialsOf}
 use Rattle.form_index.specs.Indices.{IndexForm, Documents}
 use Rattle.store_check.specs.Reading.{DefinitionFits, AttributeFits, FieldsFit, flatIndexForm, Agrees, RowFits, serialsOfRows, serialsFit, Checks, FlatPasses}
 use Rattle.layout.specs.Bodies.{widthOf, shapeOf, attributesStart, rowsStart, definitionBody, particleBody, attributeBody, rowBody, definitionsIn, particlesIn, attributesIn, treeRowsIn}
-use Rattle.store_check.specs.Check.{FormIn, RowsPass, SerialsIn}
+use Rattle.store_check.specs.Check.{FormIn, RowsPass, fitting, SerialsIn}
 use Rattle.store_check.proofs.FormGood.{form-agrees, ceilings-counted}
 use Rattle.store_check.proofs.StoreReads.{checks-read, flatOf, passes-read}
 use Rattle.store_check.proofs.FormLaws.{definition-told, attribute-told, Laid}

@@ -8,7 +8,8 @@ ghost use Rattle.rules.specs.Passing.{passes};
 ghost use Rattle.layout.specs.Bodies.{Width, widthOf, ShapeOf};
 ghost use Rattle.records.specs.Records.{headerFits};
 ghost use Rattle.form_check.specs.Bodies.{Bodies};
-ghost use Rattle.store_check.specs.Check.{FormPasses, FormIn, RowsIn, SerialsIn};
+ghost use Rattle.row_check.specs.Walking.{bytesBefore};
+ghost use Rattle.store_check.specs.Check.{FormPasses, FormIn, walkAnswer, serialsDiffer};
 
 // ---- the form
 
@@ -58,36 +59,33 @@ fn form_passes(store: &[u8], s: Shape) -> bool
 
 // ---- the rows
 
-// Whether the rows pass: each by itself, and all as documents that conform to the form.
-fn documents_pass(store: &[u8], s: Shape) -> bool
-    requires { ⌜ (headerFits (widthOf (now store)) (now store) ≡ true) × ShapeOf (now store) s × FormIn (now store) ⌝ }
-    ensures { λ r. ⌜ (r ≡ true) ↔ RowsIn (now (store .entry)) ⌝ }
+// The bytes before the tree body.
+fn before_rows(store: &[u8], s: Shape) -> &[u8]
+    requires { ⌜ ShapeOf (now store) s ⌝ }
+    ensures { λ r. ⌜ now r ≡ bytesBefore (now (store .entry)) ⌝ }
 {
-    let defs = layout::definition_body(store, s);
-    let parts = layout::particle_body(store, s);
-    let attrs = layout::attribute_body(store, s);
-    let rows = layout::row_body(store, s);
-    row_check::rows_pass(
-        s.version as usize,
-        s.width,
-        s.definitions,
-        defs,
-        parts,
-        s.attributes,
-        attrs,
-        rows,
-        s.rows,
-    )
+    let at = layout::through_attributes(s.width, s.definitions, s.particles, s.attributes);
+    codec::first(store, at)
 }
 
-// Whether the serials pass: each from 1, below the next serial, no two alike.
+// Whether the rows pass, by one walk over them: each by itself, and all as documents that conform to the form.
+fn documents_pass(store: &[u8], s: Shape) -> bool
+    requires { ⌜ (headerFits (widthOf (now store)) (now store) ≡ true) × ShapeOf (now store) s ⌝ }
+    ensures { λ r. ⌜ r ≡ walkAnswer (now (store .entry)) ⌝ }
+{
+    let before = before_rows(store, s);
+    let next = layout::next_serial(before);
+    let rows = layout::row_body(store, s);
+    row_check::rows_pass(before, next, rows, s.rows)
+}
+
+// Whether no two rows have one serial: what compares rows with each other walks apart.
 fn serials_pass(store: &[u8], s: Shape) -> bool
     requires { ⌜ (headerFits (widthOf (now store)) (now store) ≡ true) × ShapeOf (now store) s ⌝ }
-    ensures { λ r. ⌜ (r ≡ true) ↔ SerialsIn (now (store .entry)) ⌝ }
+    ensures { λ r. ⌜ r ≡ serialsDiffer (now (store .entry)) ⌝ }
 {
-    let next = layout::next_serial(store);
     let rows = layout::row_body(store, s);
-    serial_check::serials_fit(s.width, rows, s.rows, next as u32)
+    serial_check::serials_differ(s.width, rows, s.rows)
 }
 
 // ---- all

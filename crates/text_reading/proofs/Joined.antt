@@ -20,7 +20,7 @@ use Rattle.layout.specs.Bodies.{widthOf}
 use Rattle.store_laws.specs.Stores.{storeIn}
 use Rattle.store_laws.proofs.StoreLaws.{Holds}
 use Rattle.store_laws.proofs.FormBytesLaws.{ceilings-rows}
-use Rattle.store_check.specs.Check.{byIndex}
+use Rattle.form_index.specs.Reading.{byIndex}
 use Rattle.store_check.specs.Reading.{FieldsFit, Agrees, RowFits, serialsOfRows, serialsFit, FlatPasses}
 use Rattle.store_check.proofs.FormGood.{good-bodies, good-fields}
 use Rattle.store_check.proofs.StoreReads.{checks-read, flat-passes}

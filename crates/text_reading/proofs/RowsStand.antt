@@ -1,8 +1,9 @@
--- The rows that a text shows stand just where the store of the form and the rows passes: the verdict of the row check
--- is read from the rows' bytes (`documents-judged` of `row_check`), the serials are counted, and the rest is `Joined`.
+-- The rows that a text shows stand just where the store of the form and the rows passes: the verdict of the walk is
+-- that the rows read from their bytes conform (`verdict-says` of `row_check`), the serials are counted, and the rest is
+-- `Joined`.
 use Prim.Native.Nat.{ℕ, _+_, _≤_, _<_}
 use native.Mathlib.Omega.{arith}
-use mathlib.Core.Path.{_≡_, refl, sym, ap, _∙_, subst}
+use mathlib.Core.Path.{_≡_, sym, ap, _∙_, subst}
 use mathlib.Core.Logic.{_↔_}
 use mathlib.Core.Bool.{true, _&&_}
 use mathlib.Core.List.{List, [], _∷_, _++_, append-nil, List·Memᴰ, Memᴰ·map}
@@ -10,11 +11,10 @@ use lib.Dec.{leb, ltb, leb→le}
 use lib.ListN.{length, take, drop}
 use lib.Seq.{take-at, drop-at}
 use borrow.Author.Tests.{le-leb, lt-ltb}
-use Rattle.rules.specs.Bytes.{Bytes, numbers, to-T}
-use Rattle.rules.specs.Model.{Distinct, names}
+use Rattle.rules.specs.Bytes.{Bytes, numbers, to-T, all}
 use Rattle.rules.specs.Preorder.{Deep}
 use Rattle.rules.specs.Layout.{rowSize, rowBytes, each, field, FlatRow}
-use Rattle.rules.specs.Decode.{versionIn, readRow, readMany}
+use Rattle.rules.specs.Decode.{readRow, readMany}
 use Rattle.rules.specs.WellFormed.{isValue, highestNumber}
 use Rattle.rules.specs.Passing.{passes}
 use Rattle.rules.proofs.Words.{and-both, and-split}
@@ -24,20 +24,18 @@ use Rattle.rules.proofs.LayoutLaws.{GoodFlatRow, length-row, read-row, read-eac
 use Rattle.history.proofs.NumberTests.{range, times}
 use Rattle.history.proofs.Numbering.{Spent, spent-distinct, spent-below, spent-more}
 use Rattle.reading_rules.proofs.CanonicalGood.{none-spent}
-use Rattle.records.specs.Records.{rowFits, eachFits}
+use Rattle.records.specs.Records.{rowFits, serialFits, eachFits}
 use Rattle.records.proofs.RecordLaws.{FittingRow, RowParts, row-parts, row-fits, body-fits-whole}
 use Rattle.form_index.specs.Indices.{Documents}
 use Rattle.layout.specs.Bodies.{widthOf}
-use Rattle.next_row.specs.Judge.{judge, groundLevel}
-use Rattle.row_step.specs.Machine.{machine}
-use Rattle.row_step.specs.Steps.{noLevels}
-use Rattle.row_check.specs.Verdict.{rowsRead, fieldsFit, verdict}
+use Rattle.row_check.specs.Verdict.{rowsRead, verdict, SoundForm, RowsConform}
+use Rattle.row_check.specs.Walking.{beforeRead}
 use Rattle.row_check.proofs.MachineLaws.{Within}
-use Rattle.row_check.proofs.JudgeLaws.{documents-judged}
-use Rattle.store_check.specs.Check.{byIndex}
+use Rattle.row_check.proofs.PassLaws.{verdict-says}
+use Rattle.form_index.specs.Reading.{byIndex}
 use Rattle.store_check.specs.Reading.{RowFits, serialsOfRows, serialsFit}
-use Rattle.store_check.proofs.StringChecks.{Headed, laid-in}
-use Rattle.store_check.proofs.IndexReads.{index-once}
+use Rattle.store_check.proofs.StringChecks.{Headed}
+use Rattle.store_check.proofs.CallLaws.{sound-in}
 use Rattle.store_check.proofs.BodiesRead.{form-in}
 use Rattle.store_check.proofs.StoreFacts.{headed-of}
 use Rattle.text_reading.specs.Stages.{rowsStand}
@@ -108,54 +106,63 @@ pub record Counted (w : ℕ) (xs : List (Deep FlatRow)) : Type 0 where
   pub rows : Every (RowBounded w) xs
   pub serials : serialsOfRows xs ≡ range 1 (length xs)
 
+-- their serials are from 1 and below the one after them
+counted-serial : {w : ℕ} {xs : List (Deep FlatRow)} → Counted w xs → (x : Deep FlatRow) → List·Memᴰ x xs → (1 ≤ x .row .serial) × (x .row .serial < 1 + length xs)
+counted-serial {w} {xs} c x m =
+    spent-below (counted-spent (length xs)) (x .row .serial)
+    (subst (λ (ks : List ℕ). List·Memᴰ (x .row .serial) ks) (c .serials) (Memᴰ·map (λ (y : Deep FlatRow). y .row .serial) m))
+
 counted-good : (w : ℕ) (xs : List (Deep FlatRow)) → length xs ≤ 4096 → Counted w xs → Every (GoodFlatRow w) xs
-counted-good w xs few c = every-in (GoodFlatRow w) xs (λ x m. row-made w x (every-at (RowBounded w) x xs (c .rows) m) (low x m))
-  where
-    low : (x : Deep FlatRow) → List·Memᴰ x xs → x .row .serial < 4294967296
-    low x m =
-        let i : List·Memᴰ (x .row .serial) (range 1 (length xs)) = subst (λ (ks : List ℕ). List·Memᴰ (x .row .serial) ks) (c .serials) (Memᴰ·map (λ (y : Deep FlatRow). y .row .serial) m) in
-        omega (arith, spent-below (counted-spent (length xs)) (x .row .serial) i .1)
+counted-good w xs few c = every-in (GoodFlatRow w) xs (λ x m. row-made w x (every-at (RowBounded w) x xs (c .rows) m) (omega (arith, counted-serial c x m .1)))
+
+-- .. and below the next serial of the walk
+counted-below : (w : ℕ) (xs : List (Deep FlatRow)) → length xs ≤ 4096 → Counted w xs → all (λ x. serialFits 4097 (x .row .serial)) xs ≡ true
+counted-below w xs few c =
+    all-of (λ x. serialFits 4097 (x .row .serial)) xs
+    (λ x m. let (a, b) = counted-serial c x m in and-both (le-leb 1 (x .row .serial) a) (lt-ltb (x .row .serial) 4097 (omega arith)))
 
 within-made : (w : ℕ) (xs : List (Deep FlatRow)) → Every (RowBounded w) xs → Within 256 xs
 within-made w [] h = tt
 within-made w (x ∷ xs) (h, t) = (h .depth, within-made w xs t)
 
 module _ (bs : Bytes) (q : passes bs ≡ true) (xs : List (Deep FlatRow)) (c : Counted (widthOf bs) xs) where
-  w : ℕ
-  w = widthOf bs
-
-  bytes : Bytes
+  abbrev bytes : Bytes
   bytes = each (rowBytes (widthOf bs)) xs
 
-  sound : (i : ℕ) → i < byIndex bs .size → Distinct (names (byIndex bs .model i))
-  sound i l = let d : Headed bs = headed-of q in index-once (laid-in d) (form-in d q .passes) (versionIn bs) i l
+  sound : SoundForm (byIndex bs)
+  sound = let d : Headed bs = headed-of q in sound-in d (form-in d q)
 
-  told : Every (GoodFlatRow (widthOf bs)) xs
-      → (machine (judge (byIndex bs)) groundLevel noLevels 1 (rowsRead (widthOf bs) (length xs) (each (rowBytes (widthOf bs)) xs)) ≡ true) ↔ Documents (byIndex bs) xs
-  unfolding noLevels
-  told g =
-      subst
-      (λ (ys : List (Deep FlatRow)). (machine (judge (byIndex bs)) groundLevel noLevels 1 ys ≡ true) ↔ Documents (byIndex bs) xs)
-      (sym (rows-back (widthOf bs) xs g))
-      (documents-judged (byIndex bs) sound 256 xs noLevels refl refl (within-made (widthOf bs) xs (c .rows)))
+  -- the verdict of the walk
+  module _ (good : Every (GoodFlatRow (widthOf bs)) xs) where
+    back : rowsRead (widthOf bs) (length xs) bytes ≡ xs
+    back = rows-back (widthOf bs) xs good
+
+    says : (verdict (beforeRead bs) (length xs) bytes ≡ true) ↔ RowsConform (beforeRead bs) (length xs) bytes
+    says = verdict-says (beforeRead bs) (length xs) bytes sound (subst (Within 256) (sym back) (within-made (widthOf bs) xs (c .rows)))
 
   -- they stand: so they join
   pub stand-join : rowsStand bs xs ≡ true → RowsJoin bs xs
-  unfolding rowsStand verdict
+  unfolding rowsStand
   stand-join e =
       let (l, v) = and-split (leb (length xs) 4096) _ e in
       let few : length xs ≤ 4096 = leb→le (length xs) 4096 (to-T l) in
-      let g : Every (GoodFlatRow (widthOf bs)) xs = counted-good (widthOf bs) xs few c in
-      let (fit, run) = and-split (fieldsFit (widthOf bs) (length xs) (each (rowBytes (widthOf bs)) xs)) _ v in
+      let good : Every (GoodFlatRow (widthOf bs)) xs = counted-good (widthOf bs) xs few c in
+      let conform = says good .0 v in
       record {
-        fields = each-told (widthOf bs) xs g fit;
-        documents = told g .0 run;
+        fields = each-told (widthOf bs) xs good (conform .fields);
+        documents = subst (Documents (byIndex bs)) (back good) (conform .documents);
         serials = ap (serialsFit (1 + length xs)) (c .serials) ∙ counted-fit (length xs) few;
         few = few;
       }
 
   pub join-stand : RowsJoin bs xs → rowsStand bs xs ≡ true
-  unfolding rowsStand verdict
+  unfolding rowsStand
   join-stand j =
-      let g : Every (GoodFlatRow (widthOf bs)) xs = counted-good (widthOf bs) xs (j .few) c in
-      and-both (le-leb (length xs) 4096 (j .few)) (and-both (each-made (widthOf bs) xs g (j .fields)) (told g .1 (j .documents)))
+      let good : Every (GoodFlatRow (widthOf bs)) xs = counted-good (widthOf bs) xs (j .few) c in
+      let conform : RowsConform (beforeRead bs) (length xs) bytes =
+      record {
+        fields = each-made (widthOf bs) xs good (j .fields);
+        serials = ap (all (λ x. serialFits 4097 (x .row .serial))) (back good) ∙ counted-below (widthOf bs) xs (j .few) c;
+        documents = subst (Documents (byIndex bs)) (sym (back good)) (j .documents);
+      } in
+      and-both (le-leb (length xs) 4096 (j .few)) (says good .1 conform)

@@ -15,9 +15,9 @@ use Rattle.rules.specs.Outcome.{Outcome, refused, unlessRefused}
 use Rattle.rules.specs.Print.{tooLong}
 use Rattle.printing.specs.Texts.{textOf}
 use Rattle.row_check.specs.Verdict.{verdict}
+use Rattle.row_check.specs.Walking.{beforeRead}
 use Rattle.layout.specs.Bodies.{widthOf}
 use Rattle.store_laws.specs.Forms.{reformed}
-use Rattle.store_check.specs.Check.{byIndex}
 use Rattle.lookup.specs.Bodies.{bodiesOf}
 use Rattle.form_front.specs.Front.{frontStands}
 use Rattle.declaration_scan.specs.Declared.{declaredForm}
@@ -50,7 +50,7 @@ module _ (version : ℕ) (txt : Bytes) where
 
 -- rows that the store of the bytes `bs` may hold
 unfoldable pub rowsStand : Bytes → List (Deep FlatRow) → Bool
-rowsStand bs xs = leb (length xs) 4096 && verdict (widthOf bs) (byIndex bs) (length xs) (each (rowBytes (widthOf bs)) xs)
+rowsStand bs xs = leb (length xs) 4096 && verdict (beforeRead bs) (length xs) (each (rowBytes (widthOf bs)) xs)
 
 abbrev pub ifRows : (List (Deep FlatRow) → Outcome) → Option (List (Deep FlatRow)) → Outcome
 ifRows f none = refused 19

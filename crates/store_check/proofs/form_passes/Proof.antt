@@ -1,6 +1,7 @@
 -- The counts and bodies that the shape cuts out are those of the string.
 use borrow.Author.Needs.{needs}
-use Rattle.store_check.proofs.CallLaws.{cut-of, headed, cut-laid, cut-form}
+use Rattle.form_index.proofs.CutLaws.{cut-of}
+use Rattle.store_check.proofs.CallLaws.{headed, cut-laid, cut-form}
 use Rattle.store_check.proofs.form_passes.Statement.{statement}
 use Rattle.store_check.proofs.form_passes.Tie as tie
 

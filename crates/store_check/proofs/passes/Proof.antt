@@ -1,6 +1,5 @@
 -- A test that fails refutes that the string passes, and all of them show it.
 use borrow.Author.Needs.{needs}
-use borrow.Author.Tests.{not-false}
 use Rattle.store_check.proofs.CallLaws.{header-kept, headed, headless, formless, rowless, passed}
 use Rattle.store_check.proofs.passes.Statement.{statement}
 use Rattle.store_check.proofs.passes.Tie as tie
@@ -39,7 +38,7 @@ documents-pass-requires c κs =
     let at-shape-of = at-header-fits .before in
     let shape = at-shape-of .shape-of .ensures in
     let header = header-kept shape (at-if1 .if1 .left) (at-header-fits .header-fits .ensures) in
-    (header, shape, c .before .form-passes .ensures .0 (not-false _ (c .if2 .left)))
+    (header, shape)
 
 returns-3 : tie.Need-returns-3
 returns-3 c =

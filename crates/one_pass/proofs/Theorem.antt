@@ -110,7 +110,10 @@ module _ (bs : Bytes) where
         );
         state = λ h m s e. let r = walk-reached before (few h .definitions) (few h .attributes) m (treeRowsIn bs) startState s start-reached e in (r .fits .long, r .bytes);
         resumes = λ m n e s q. split-at m n e ∙ resumed m n s q;
-        refused = λ m n e q. split-at m n e ∙ ap (λ (o : Option Bytes). stateEnds (before .form) (walk before n (rowsLeft bs m) o)) q ∙ ap (stateEnds (before .form)) (walk-none before n (rowsLeft bs m));
+        refused = λ m n e q.
+            split-at m n e
+            ∙ ap (λ (o : Option Bytes). stateEnds (before .form) (walk before n (rowsLeft bs m) o)) q
+            ∙ ap (stateEnds (before .form)) (walk-none before n (rowsLeft bs m));
       }
     where
       headed : headerFits (widthOf bs) bs ≡ true → Headed bs

@@ -132,7 +132,8 @@ verdict-says b count rows sound low = (to, from)
 
     from : RowsConform b count rows → verdict b count rows ≡ true
     from r =
-        let elements : all (elementFits (b .form .size)) (rowsRead (b .width) count rows) ≡ true = elements-fit (b .form) (sound .definitions) (sound .chains) (rowsRead (b .width) count rows) (r .documents) in
+        let elements : all (elementFits (b .form .size)) (rowsRead (b .width) count rows) ≡ true =
+        elements-fit (b .form) (sound .definitions) (sound .chains) (rowsRead (b .width) count rows) (r .documents) in
         let ranged : all (rangesFit b) (rowsRead (b .width) count rows) ≡ true =
         all-of (rangesFit b) (rowsRead (b .width) count rows)
         (λ x m. and-both (all-in (λ y. serialFits (b .next) (y .row .serial)) x (rowsRead (b .width) count rows) (r .serials) m)

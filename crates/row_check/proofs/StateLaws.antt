@@ -288,7 +288,10 @@ module _ (f : IndexForm) {s : Bytes} {l : List Level} {n : ℕ} (p : StandsFor s
     nested = withElement s d (x .row .index)
 
     noted-long : length noted ≡ 130
-    noted-long = length-set (set (withChild s d (x .row .index)) (2 * (d + 1)) (x .row .index)) (2 * (d + 1) + 1) 0 ∙ length-set (withChild s d (x .row .index)) (2 * (d + 1)) (x .row .index) ∙ child-long
+    noted-long =
+        length-set (set (withChild s d (x .row .index)) (2 * (d + 1)) (x .row .index)) (2 * (d + 1) + 1) 0
+        ∙ length-set (withChild s d (x .row .index)) (2 * (d + 1)) (x .row .index)
+        ∙ child-long
 
     element-open : openElements nested ≡ d + 1
     element-open = head-open noted 1 (d + 1) noted-long

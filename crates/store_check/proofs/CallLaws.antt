@@ -74,7 +74,8 @@ module _ {bs : Bytes} {s : Shape} (x : ShapeOf bs s) where
   width-is = ap (λ (z : Shape). z .width) (x .is)
 
   -- the bytes before the tree body
-  pub before-of : {at : ℕ} {r : Bytes} → Place (headerSize + definitionSize * s .definitions + particleSize * s .particles + attributeSize (s .width) * s .attributes) at → r ≡ take at bs → r ≡ bytesBefore bs
+  pub before-of : {at : ℕ} {r : Bytes} → Place (headerSize + definitionSize * s .definitions + particleSize * s .particles + attributeSize (s .width) * s .attributes) at
+      → r ≡ take at bs → r ≡ bytesBefore bs
   unfolding rowsStart attributesStart
   before-of p e = e ∙ ap (λ (k : ℕ). take k bs) (p .value) ∙ ap (λ (z : Shape). take (rowsStart z) bs) (x .is)
 

@@ -37,8 +37,10 @@ returns-4 c e =
     let attributes-few = at-width-in .before in
     let at-attribute-count = attributes-few .before in
     let definitions-few = at-attribute-count .before in
-    let at-definition-count = definitions-few .before in
-    (few-in (at-definition-count .definition-count .ensures) (omega arith) (at-attribute-count .attribute-count .ensures) (omega arith), rows-there (at-width-in .width-in .ensures) (at-row-size .row-size .ensures) (c .times .ensures) e)
+    let at-definition-count = definitions-few .before in (
+      few-in (at-definition-count .definition-count .ensures) (omega arith) (at-attribute-count .attribute-count .ensures) (omega arith),
+      rows-there (at-width-in .width-in .ensures) (at-row-size .row-size .ensures) (c .times .ensures) e,
+    )
 
 pub askable-spec : {M : Type 1} → statement M
 askable-spec =

@@ -15,7 +15,8 @@ use Rattle.rules.specs.WellFormed.{inName}
 use Rattle.rules.proofs.Words.{and-split}
 use Rattle.text_scan.specs.Scan.{firstByte, startsWith, frontWhile, afterWhile, noQuote, noTag, unescaped, valueOr}
 use Rattle.text_scan.proofs.ScanLaws.{leading-trailing, starts-long}
-use Rattle.document_tokens.specs.Tokens.{Declared, Token, kindOfDefinition, shortValue, elementToken, attributeToken, textToken, startEndToken, endTag, endToken, noToken, tagToken, tokenAt, withRows}
+use Rattle.document_tokens.specs.Tokens.{Declared, Token, kindOfDefinition, shortValue, tokenAt, withRows}
+use Rattle.document_tokens.specs.Tokens.{elementToken, attributeToken, textToken, startEndToken, endTag, endToken, noToken, tagToken}
 
 -- ---- fronts
 pub leading-short : (p : ℕ → Bool) (txt : Bytes) → length (frontWhile p txt) + length (afterWhile p txt) ≡ length txt

@@ -8,7 +8,7 @@ use mathlib.Core.Bool.{Bool, true, false, false≢true}
 use mathlib.Core.Option.{Option, none, some}
 use mathlib.Core.List.{[], _∷_}
 use lib.Dec.{eqb}
-use lib.ListN.{length, getD, set, take, drop, length-replicate}
+use lib.ListN.{length, getD, set, take, drop}
 use borrow.Author.Tests.{eqb-true, eqb-false}
 use Rattle.rules.specs.Bytes.{Bytes}
 use Rattle.rules.specs.Preorder.{Deep}
@@ -25,6 +25,7 @@ use Rattle.row_state.proofs.TakenLaws.{stepped-element, stepped-attribute, step
 use Rattle.row_check.specs.Verdict.{answerFrom, verdict}
 use Rattle.row_check.specs.Walking.{bytesBefore, beforeIn, FewIn}
 use Rattle.row_check.proofs.WalkLaws.{walk-none, walk-split, came, came-room}
+use Rattle.row_check.proofs.PassLaws.{start-fits}
 use Rattle.row_check.proofs.BeforeLaws.{width-before, few-before}
 use Rattle.store_check.specs.Check.{FormIn, walkAnswer, serialsDiffer}
 use Rattle.store_check.proofs.StringChecks.{Headed, header, passes-header}
@@ -67,7 +68,7 @@ record Reached (s : Bytes) : Type 0 where
 
 start-reached : Reached startState
 unfolding startState
-start-reached = record { fits = record { long = length-replicate {A = ℕ} 130 0; low = omega arith }; bytes = record { each = λ i. omega (arith, zeros-read 130 i) } }
+start-reached = record { fits = start-fits; bytes = record { each = λ i. omega (arith, zeros-read 130 i) } }
 
 module _ (b : Before) (few : b .form .size ≤ 64) (some-few : b .form .attributes ≤ 64) where
   walk-reached : (count : ℕ) (bs s t : Bytes) → Reached s → walk b count bs (some s) ≡ some t → Reached t

@@ -46,10 +46,9 @@
  * after time*, 2 0 is in the group before club, 2 2 in it after team. `place_length` says how many numbers there are.
  *
  * TEXT: what new elements hold. Where a change makes an element, it makes all that the DTD wants in it, its filling:
- * REQUIRED attributes with their fill, the members that may not be absent (of a CHOICE the member with the fewest rows,
- * the earlier one among equals), and `text` as the text of every PCDATA element. Changes 3, 5 and 8 want one that is
- * not empty where the new quantifier makes children necessary; 11 and 12 take an empty one. Where it is not used, pass
- * "" and 0.
+ * REQUIRED attributes with their fill, the members that may not be absent (of a CHOICE the first), and `text` as the
+ * text of every PCDATA element. Changes 3, 5 and 8 want one that is not empty where the new quantifier makes children
+ * necessary; 11 and 12 take an empty one. Where it is not used, pass "" and 0.
  *
  * SPINE: the top list of a model, and each LIST without quantifier that stands in a list of the spine. Every element of
  * the owner goes through such a list exactly once, so only there can children be made or taken when a quantifier asks
@@ -69,7 +68,7 @@ extern "C" {
 #endif
 
 /* The stack in bytes that is enough for any call. */
-#define FORMSTORE_STACK 78848
+#define FORMSTORE_STACK 69632
 
 /* The ceilings of a store. Depth: the groups around a particle. */
 #define FORMSTORE_MAX_DEFINITIONS 64

@@ -19,8 +19,7 @@ pub const NOTES: [(&str, &str); 4] = [
          takes rows asks first at a terminal; elsewhere \
          it is refused without --yes. --dry-run says what would be done and writes nothing. A refusal has its number \
          in the store's table of refusals, and leaves the \
-         file as it was. What is made has all in it that the form wants; of a choice it is the member with the fewest \
-         rows, the earlier one among equals.",
+         file as it was.",
     ),
     (
         "Files",

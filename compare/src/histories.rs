@@ -6,7 +6,7 @@ use second::layout::u32_at;
 use second::print::text_of;
 use second::random::damage::damaged;
 use second::random::history::{Counts, Moment, LONGEST};
-use second::random::{calls, choices, documents, words};
+use second::random::{calls, documents, words};
 use second::rng::Rng;
 use second::store::{Particle, Store, Term, MAX_ROWS};
 use second::{apply, Answer, Call};
@@ -62,7 +62,7 @@ impl Comparison {
     }
 
     /// From a store that none needs to reach: rounds of groups, serials in no order, a next serial near the last,
-    /// bodies near their ceilings, CHOICEs that are filled.
+    /// bodies near their ceilings.
     fn built(&mut self) {
         let mut moment = Moment::at(any_store(&mut self.rng));
         self.short(&mut moment);
@@ -178,7 +178,6 @@ fn any_store(rng: &mut Rng) -> Store {
     match rng.below(20) {
         0 => documents::store(rng, 64, 64, 4096),
         1..=3 => documents::crowded_store(rng),
-        4..=6 => choices::store(rng),
         _ => documents::store(rng, 9, 8, 400),
     }
 }

@@ -1,7 +1,6 @@
 //! Stores at the ceilings, made by hand: the deepest, the fullest and the longest that there are, and calls on them.
 
 mod calls;
-pub mod choices;
 
 use second::filling::Maker;
 use second::layout::{encode, particle_count, u32_at, PARTICLE, ROW};
@@ -374,11 +373,7 @@ pub fn all() -> Vec<Worst> {
     let others = others.map(|(name, store)| Worst::new(name, store));
     let paddings = [Padding::Lists, Padding::Choices, Padding::Siblings];
     let deepest = paddings.into_iter().flat_map(deepest);
-    deepest
-        .chain(others)
-        .chain(choices::all())
-        .chain(spoiled())
-        .collect()
+    deepest.chain(others).chain(spoiled()).collect()
 }
 
 /// Stores that do not pass, of which each record of a body says that it stands deeper than the one before it.

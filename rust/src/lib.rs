@@ -25,10 +25,6 @@
 //! that owns the model and a *place*: one to five numbers of which all but the last pick a group, members counting from
 //! 1, and the last picks a member, or where to insert.
 //!
-//! Where a change makes an element it makes all that the DTD wants in it, its *filling*: REQUIRED attributes with their
-//! fill, the text of every PCDATA element, and the members that may not be absent; of a CHOICE the member with the
-//! fewest rows, the earlier one among equals.
-//!
 //! # Example
 //! ```
 //! use formstore::{Kind, Quantifier, Refusal, Store};
@@ -101,7 +97,7 @@ pub const MAX_NAME: usize = 16;
 pub const MAX_VALUE: usize = 32;
 
 /// The stack in bytes that is enough for any call, as measured on stores made to need the most.
-pub const STACK: usize = 78_848;
+pub const STACK: usize = 69_632;
 
 /// A store without definitions and documents: version 1, next serial 1, and four empty bodies that start at 40.
 pub const FRESH: [u8; 40] = [

@@ -7,7 +7,6 @@
 use crate::call::Call;
 use crate::edit;
 use crate::rows::{Row, RowSort};
-use crate::sizes::Sizes;
 use crate::store::*;
 use std::collections::HashSet;
 
@@ -263,26 +262,15 @@ impl Book {
     }
 }
 
-/// What the lines of a filling are made with.
-struct Given<'a> {
-    text: &'a [u8],
-    sizes: Sizes,
-}
-
 /// Fillings.
 impl Book {
-    fn given<'a>(&self, text: &'a [u8]) -> Given<'a> {
-        let sizes = Sizes::of(&self.form);
-        Given { text, sizes }
-    }
-
     fn insert_filling(&mut self, at: usize, parent: u32, definition: usize, text: &[u8]) {
         let mut lines = Vec::new();
-        self.fill_definition(definition, parent, &self.given(text), &mut lines);
+        self.fill_definition(definition, parent, text, &mut lines);
         self.lines.splice(at..at, lines);
     }
 
-    fn fill_definition(&mut self, index: usize, parent: u32, given: &Given, lines: &mut Vec<Line>) {
+    fn fill_definition(&mut self, index: usize, parent: u32, text: &[u8], lines: &mut Vec<Line>) {
         // No accepted call makes more; a wrong acceptance must not fill the memory.
         assert!(lines.len() < MAX_ROWS, "a filling passes the ceiling");
         let definition = self.form.definitions[index].clone();
@@ -296,10 +284,10 @@ impl Book {
             }
         }
         if definition.kind == Kind::Pcdata {
-            lines.push(self.make(RowSort::Text, None, serial, Some(given.text)));
+            lines.push(self.make(RowSort::Text, None, serial, Some(text)));
         }
         for particle in &definition.model {
-            self.fill_particle(particle, serial, given, lines);
+            self.fill_particle(particle, serial, text, lines);
         }
     }
 
@@ -307,22 +295,22 @@ impl Book {
         &mut self,
         particle: &Particle,
         parent: u32,
-        given: &Given,
+        text: &[u8],
         lines: &mut Vec<Line>,
     ) {
         if particle.accepts_nothing() {
             return;
         }
         match &particle.term {
-            Term::Element(index) => self.fill_definition(*index, parent, given, lines),
-            Term::Group(GroupKind::List, members) => {
-                for member in members {
-                    self.fill_particle(member, parent, given, lines);
+            Term::Element(index) => self.fill_definition(*index, parent, text, lines),
+            Term::Group(kind, members) => {
+                let filled = match kind {
+                    GroupKind::List => members.len(),
+                    GroupKind::Choice => 1,
+                };
+                for member in &members[..filled] {
+                    self.fill_particle(member, parent, text, lines);
                 }
-            }
-            Term::Group(GroupKind::Choice, members) => {
-                let member = given.sizes.fewest(members);
-                self.fill_particle(member, parent, given, lines);
             }
         }
     }
@@ -335,7 +323,6 @@ impl Book {
         // A name stands once in a model, so the particle begins at its first name.
         let begin = earlier.iter().position(|name| *name == own[0]);
         earlier.truncate(begin.expect("the particle stands in the model"));
-        let given = self.given(text);
         for instance in self.instances(owner) {
             let children = self.children(instance);
             if children.iter().any(|(_, name)| own.contains(name)) {
@@ -347,7 +334,7 @@ impl Book {
                 None => self.behind_attributes(instance),
             };
             let mut lines = Vec::new();
-            self.fill_particle(particle, instance, &given, &mut lines);
+            self.fill_particle(particle, instance, text, &mut lines);
             self.lines.splice(at..at, lines);
         }
     }

@@ -1,7 +1,6 @@
 //! *Filling*: the rows that a change makes.
 
 use crate::outcome::Refusal;
-use crate::sizes::Sizes;
 use crate::store::*;
 
 /// Makes rows with rising serials and counts them.
@@ -11,7 +10,6 @@ use crate::store::*;
 /// change takes, the rows made are all left in the store, and 16 applies.
 pub struct Maker<'a> {
     form: &'a Form,
-    sizes: Sizes,
     text: &'a [u8],
     next_serial: u32,
     pub made: usize,
@@ -21,7 +19,6 @@ impl<'a> Maker<'a> {
     pub fn new(form: &'a Form, next_serial: u32, text: &'a [u8]) -> Maker<'a> {
         Maker {
             form,
-            sizes: Sizes::of(form),
             text,
             next_serial,
             made: 0,
@@ -83,10 +80,7 @@ impl<'a> Maker<'a> {
                     self.particle(member, rows)?;
                 }
             }
-            Term::Group(GroupKind::Choice, members) => {
-                let member = self.sizes.fewest(members);
-                self.particle(member, rows)?;
-            }
+            Term::Group(GroupKind::Choice, members) => self.particle(&members[0], rows)?,
         }
         Ok(())
     }

@@ -19,7 +19,6 @@ pub mod outcome;
 pub mod print;
 pub mod reading;
 pub mod rows;
-pub mod sizes;
 pub mod store;
 pub mod testing;
 

@@ -1,7 +1,6 @@
 //! Which calls are made on which of the worst stores.
 
 use super::stores::*;
-use compare::worst::choices::huge_members;
 use compare::worst::longest;
 use second::store::Store;
 
@@ -28,7 +27,7 @@ const AT_THE_LAST: &[&str] = &[
     "set_text LAST x2d",
 ];
 
-pub const CASES: [Case; 31] = [
+pub const CASES: [Case; 24] = [
     Case {
         name: "children of one root",
         store: texts,
@@ -241,59 +240,6 @@ pub const CASES: [Case; 31] = [
         store: doubling_of_one,
         rows: [1, 2, 2],
         changes: &["add_document 1 x2d"],
-    },
-    Case {
-        name: "members of 2^60 rows",
-        store: huge_members,
-        rows: [250, 2000, 2000],
-        changes: &[
-            "insert_element 0 p2 4 0 x2d",
-            "change_group_quantifier 0 p1 0 x2d",
-            "change_group_quantifier 0 p2 0 x2d",
-            "add_document 0 x2d",
-            "add_document 1 x2d",
-            "add_element 1 0 1 x2d",
-        ],
-    },
-    Case {
-        name: "2^50 ways through CHOICEs",
-        store: shortest_ways,
-        rows: [253, 2001, 2001],
-        changes: &[
-            "insert_element 0 p0 60 0 x2d",
-            "add_document 0 x2d",
-            "destroy_element 1",
-        ],
-    },
-    Case {
-        name: "1,023 CHOICEs of 43 in a filling",
-        store: wide_choices_apart,
-        rows: [1, 2, 2],
-        changes: &["add_document 1 x2d"],
-    },
-    Case {
-        name: "1,023 CHOICEs of 43, inserted",
-        store: wide_choices_apart,
-        rows: [1, 1, 1],
-        changes: &["insert_element 0 p0 1 0 x2d"],
-    },
-    Case {
-        name: "1,023 CHOICEs of 43 in a group",
-        store: wide_choices_below,
-        rows: [1, 1, 1],
-        changes: &["change_group_quantifier 0 p1 0 x2d"],
-    },
-    Case {
-        name: "1,365 instances, a CHOICE of 61",
-        store: wide_choices_in_groups,
-        rows: FULL,
-        changes: &["change_group_quantifier 1 p1 0 x2d"],
-    },
-    Case {
-        name: "1,023 fillings, a CHOICE of 61",
-        store: wide_choices_inserted,
-        rows: FULL,
-        changes: &["insert_element 1 p0 2 0 x2d"],
     },
     Case {
         name: "all ceilings",

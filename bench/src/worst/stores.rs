@@ -1,8 +1,5 @@
 //! Stores of about so many rows that make the calls work the most. They pass the check.
 
-use compare::worst::choices::{
-    self, many_ways, wide_choices, wide_choices_missing, wide_choices_to_insert,
-};
 use compare::worst::*;
 use second::store::*;
 use std::ops::RangeInclusive;
@@ -252,30 +249,4 @@ pub fn doubling_of_none(rows: usize) -> Store {
 
 pub fn doubling_of_one(rows: usize) -> Store {
     doubling(10, 1, rows)
-}
-
-/// Each document has 23 rows.
-pub fn shortest_ways(rows: usize) -> Store {
-    many_ways(rows / 23)
-}
-
-/// The document's filling is one of 4,092 rows.
-pub fn wide_choices_apart(rows: usize) -> Store {
-    wide_choices(Vec::new(), rows)
-}
-
-/// The document may have a group of it.
-pub fn wide_choices_below(rows: usize) -> Store {
-    let group = optional(choices::choice(vec![member(1)]));
-    wide_choices(vec![group], rows)
-}
-
-/// Each instance gets two rows.
-pub fn wide_choices_in_groups(rows: usize) -> Store {
-    wide_choices_missing((rows - 1) / 3)
-}
-
-/// Each instance gets three rows.
-pub fn wide_choices_inserted(rows: usize) -> Store {
-    wide_choices_to_insert((rows - 1) / 4)
 }

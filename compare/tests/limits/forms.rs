@@ -232,28 +232,6 @@ fn cut_and_gain_of_a_full_store() {
     }
 }
 
-/// An instance gets the small member of a CHOICE whose others have over 2^60 rows: `n1`, or a group of the first model,
-/// is that CHOICE. The element and the group are QMARK before.
-#[test]
-fn small_members_beside_huge_ones() {
-    let mut store = nested_form(64, 4);
-    add_required(&mut store, 62, 64);
-    assert!(filling_rows(&store.form)[4] >> 60 > 0);
-    let members = || choice([2, 63, 3].map(member).into());
-    store.form.definitions[1].model = vec![members()];
-    let models = [vec![], vec![member(1)], vec![members()]];
-    for (at, model) in models.into_iter().enumerate() {
-        let place = [model.len() as u32];
-        store.form.definitions[0].model = model.into_iter().map(optional).collect();
-        let (_, bytes) = change(&add_document(0, b""), &encode(&store));
-        let call = &quantifier_calls(&place, 1, 0, "new")[at];
-        let (answer, filled) = change(call, &bytes);
-        assert_eq!(answer, 0, "{call:?}");
-        let filled = second::read(&filled).expect("it passes");
-        assert_eq!(filled.row_count(), [3, 3, 2][at], "{call:?}");
-    }
-}
-
 /// Of over 2^56 rows, where an instance exists; the element and the group are QMARK before.
 #[test]
 fn fillings_too_large_to_make() {

@@ -6,8 +6,7 @@ mod documents;
 mod forms;
 
 use compare::agreed;
-use compare::worst::choices::choice;
-use compare::worst::{add_required, filling_rows, group, member, nested_form, optional};
+use compare::worst::{add_required, filling_rows, group, member, nested_form};
 use second::layout::encode;
 use second::random::history::LONGEST;
 use second::store::*;

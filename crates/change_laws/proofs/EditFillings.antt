@@ -3,26 +3,26 @@
 use Prim.Native.Nat.{ℕ}
 use mathlib.Core.Path.{◌≡◌, refl, sym, ap, ◌∙◌}
 use mathlib.Core.Logic.{◌⊎◌, inl, inr, ⊎_elim}
-use mathlib.Core.Bool.{Bool, true, ◌||◌, false≢true}
+use mathlib.Core.Bool.{Bool, true, false, ◌||◌, false≢true}
 use mathlib.Core.Option.{Option, some}
 use mathlib.Core.List.Memᴰ
 use mathlib.Core.List.{List, ◌++◌, Memᴰ}
 use lib.ListN.{length}
 use Rattle.rules.specs.Bytes.{Bytes, is_none}
-use Rattle.rules.specs.Model.{Members, done, el, group, names, skips, nothing, filling}
+use Rattle.rules.specs.Model.{Members, done, el, group, names, skips, nothing, unless, filling}
 use Rattle.rules.specs.Place.{Context, before_place, after_place, Found}
 use Rattle.rules.specs.Edit.{Edit, insert, remove, quantify, convert, flatten, place_of}
 use Rattle.rules.specs.Store.{Content, complex, Definition, Form, RowSort, element, attribute, text, Row, Forest, bare, tree, model_of, members}
 use Rattle.rules.specs.WellFormed.{lookup, known, members_of, Reaches, directly, through, GoodDefinition, well_formed}
 use Rattle.rules.specs.Conforming.{EveryRow, is_element, every_row, fits_definition, fits_row}
-use Rattle.rules.specs.Filling.{filled_rows, fill_within, fill_definition}
+use Rattle.rules.specs.Filling.{fill_within, fill_definition}
 use Rattle.rules.specs.Lines.{Line}
 use Rattle.rules.specs.Change.{group_filling, name_at_index, in_model, edit_at, edit_model}
 use Rattle.rules.proofs.Apart.{names_plug}
 use Rattle.rules.proofs.Height.{reaches_then}
 use Rattle.rules.proofs.SerialLaws.{every_row_lem}
 use Rattle.rules.proofs.WellFormedLaws.{definition_good, no_circle, definition_deep}
-use Rattle.rules.proofs.FillingLaws.{in_unless, in_filling, every_each, every_filled, filling_fits}
+use Rattle.rules.proofs.FillingLaws.{in_filling, every_each, every_filled, filling_fits}
 use Rattle.change_laws.proofs.FormLaws.{update_other}
 use Rattle.change_laws.proofs.ModelAfter.{place_right}
 use Rattle.change_laws.proofs.Replacing.{Joins}
@@ -38,18 +38,20 @@ Insertable form owner (quantify r) = Unit {0}
 Insertable form owner (convert j n) = Unit {0}
 Insertable form owner flatten = Unit {0}
 
+in_unless : (b : Bool) (w : List Bytes) (x : Bytes) → Memᴰ x (unless b w) → Memᴰ x w
+in_unless true w x m = absurd (Memᴰ.not-nil m)
+in_unless false w x m = m
+
 -- what is filled was inserted or stood at the place
-filled_from_lem : (version : ℕ) (form : Form) (owner : Bytes) (e : Edit Bytes) (t : Members Bytes) → Insertable form owner e → (m : Bytes) → Memᴰ m (filled version form e t)
-    → Joins form owner m ⊎ Memᴰ m (names t)
+filled_from : (form : Form) (owner : Bytes) (e : Edit Bytes) (t : Members Bytes) → Insertable form owner e → (m : Bytes) → Memᴰ m (filled e t) → Joins form owner m ⊎ Memᴰ m (names t)
 unfolding names
-filled_from_lem version form owner (insert q n) t i m k = inl (rw (Memᴰ.eq_of_singleton k) i)
-filled_from_lem version form owner remove t i m k = absurd (Memᴰ.not-nil k)
-filled_from_lem version form owner (quantify r) done i m k = absurd (Memᴰ.not-nil k)
-filled_from_lem version form owner (quantify r) (el q x t) i m k = inr (Memᴰ.head (Memᴰ.eq_of_singleton k))
-filled_from_lem version form owner (quantify r) (group q j ms t) i m k =
-    inr (Memᴰ.append_left (names t) (in_filling m (filled_rows version form) j ms (in_unless m (skips r || nothing j ms) (filling (filled_rows version form) j ms) k)))
-filled_from_lem version form owner (convert j n) t i m k = absurd (Memᴰ.not-nil k)
-filled_from_lem version form owner flatten t i m k = absurd (Memᴰ.not-nil k)
+filled_from form owner (insert q n) t i m k = inl (rw (Memᴰ.eq_of_singleton k) i)
+filled_from form owner remove t i m k = absurd (Memᴰ.not-nil k)
+filled_from form owner (quantify r) done i m k = absurd (Memᴰ.not-nil k)
+filled_from form owner (quantify r) (el q x t) i m k = inr (Memᴰ.head (Memᴰ.eq_of_singleton k))
+filled_from form owner (quantify r) (group q j ms t) i m k = inr (Memᴰ.append_left (names t) (in_filling m j ms (in_unless (skips r || nothing j ms) (filling j ms) m k)))
+filled_from form owner (convert j n) t i m k = absurd (Memᴰ.not-nil k)
+filled_from form owner flatten t i m k = absurd (Memᴰ.not-nil k)
 
 -- ---- the rows of a filling
 pub filling_reaches : (version h : ℕ) (form : Form) (txt n : Bytes) → EveryRow (λ x b. x.sort ≡ element → (x.name ≡ n) ⊎ Reaches form n x.name) (fill_within version h form txt n)
@@ -63,7 +65,7 @@ filling_reaches version h form txt n =
 
 -- every row of the plan is one of a filling
 every_planned : (version : ℕ) (P : Row → List Row → Type 0) (form : Form) (ls : List Line) (owner txt : Bytes) (e : Edit Bytes) (c : Context Bytes) (t : Members Bytes)
-    → ((m : Bytes) → Memᴰ m (filled version form e t) → EveryRow P (fill_definition version form txt m))
+    → ((m : Bytes) → Memᴰ m (filled e t) → EveryRow P (fill_definition version form txt m))
     → EveryRow P (edit_plan version form ls owner txt e c t).filling
 every_planned version P form ls owner txt (insert q n) c t f = f n (Memᴰ.head refl)
 every_planned version P form ls owner txt remove c done f = tt
@@ -71,7 +73,7 @@ every_planned version P form ls owner txt remove c (el q x t) f = tt
 every_planned version P form ls owner txt remove c (group q k ms t) f = tt
 every_planned version P form ls owner txt (quantify r) c done f = tt
 every_planned version P form ls owner txt (quantify r) c (el q x t) f = f x (Memᴰ.head refl)
-every_planned version P form ls owner txt (quantify r) c (group q k ms t) f = every_each P (λ n. fill_definition version form txt n) (group_filling version form r k ms) f
+every_planned version P form ls owner txt (quantify r) c (group q k ms t) f = every_each P (λ n. fill_definition version form txt n) (group_filling r k ms) f
 every_planned version P form ls owner txt (convert j n) c t f = tt
 every_planned version P form ls owner txt flatten c t f = tt
 
@@ -106,10 +108,10 @@ module _ (w : ℕ) (form : Form) (ok : well_formed w form ≡ true) (d : Definit
       own = rw at i
 
   module _ (ms : Members Bytes) (is : d.content ≡ complex ms) (e : Edit Bytes) (p : List ℕ) (f : Found Bytes) (found : place_of e p ms ≡ some f) where
-    pub filled_outside : (version : ℕ) → Insertable form d.name e → (m : Bytes) → Memᴰ m (filled version form e f.picked) → Joins form d.name m
-    filled_outside version i m k =
+    pub filled_outside : Insertable form d.name e → (m : Bytes) → Memᴰ m (filled e f.picked) → Joins form d.name m
+    filled_outside i m k =
         ⊎_elim (λ o. o) (λ j. member_outside m (rw own_names (Memᴰ.append_right (before_place f.context) (Memᴰ.append_left (after_place f.context) j))))
-        (filled_from_lem version form d.name e f.picked i m k)
+        (filled_from form d.name e f.picked i m k)
       where
         own_names : names (members d) ≡ before_place f.context ++ (names f.picked ++ after_place f.context)
         own_names = ap (λ (z : Content). names (model_of z)) is ∙ sym (ap names (place_right e p ms f found)) ∙ names_plug f.context f.picked
@@ -120,7 +122,7 @@ module _ (w : ℕ) (form : Form) (ok : well_formed w form ≡ true) (d : Definit
           → every_row (λ x b. fits_row version form' x b) (edit_plan version form ls d.name txt e f.context f.picked).filling ≡ true
       filling_fits_in form' others =
           (every_row_lem (λ x b. fits_row version form' x b) (edit_plan version form ls d.name txt e f.context f.picked).filling).1
-          (every_planned version (λ x b. fits_row version form' x b ≡ true) form ls d.name txt e f.context f.picked (λ m k. one m (filled_outside version i m k)))
+          (every_planned version (λ x b. fits_row version form' x b ≡ true) form ls d.name txt e f.context f.picked (λ m k. one m (filled_outside i m k)))
         where
           good : (n : Bytes) (c : Definition) → lookup n form ≡ some c → GoodDefinition w form c
           good = definition_good w form ok

@@ -16,7 +16,7 @@ use Rattle.rules.specs.Place.{Context, spine, before_place}
 use Rattle.rules.specs.Edit.{Edit, insert, remove, quantify, convert, flatten}
 use Rattle.rules.specs.Store.{Form, RowSort, element, attribute, Row}
 use Rattle.rules.specs.Conforming.{name_of, Sorted, is_element}
-use Rattle.rules.specs.Filling.{filled_rows, element_row}
+use Rattle.rules.specs.Filling.{element_row}
 use Rattle.rules.specs.Lines.{Line, element_named, element_among, children_of, serial_at}
 use Rattle.rules.specs.Change.{Plan, keeping, later_than, insert_plan, remove_plan, group_filling, quantify_plan}
 use Rattle.rules.proofs.Words.{and_off, and_held}
@@ -40,14 +40,14 @@ edit_plan version form ls owner txt (convert j n) c t = keeping
 edit_plan version form ls owner txt flatten c t = keeping
 
 -- the names that it fills
-abbrev pub filled : ℕ → Form → Edit Bytes → Members Bytes → List Bytes
-filled version form (insert q n) t = n ∷ []
-filled version form remove t = []
-filled version form (quantify r) done = []
-filled version form (quantify r) (el q x t) = x ∷ []
-filled version form (quantify r) (group q k ms t) = group_filling version form r k ms
-filled version form (convert j n) t = []
-filled version form flatten t = []
+abbrev pub filled : Edit Bytes → Members Bytes → List Bytes
+filled (insert q n) t = n ∷ []
+filled remove t = []
+filled (quantify r) done = []
+filled (quantify r) (el q x t) = x ∷ []
+filled (quantify r) (group q k ms t) = group_filling r k ms
+filled (convert j n) t = []
+filled flatten t = []
 
 -- the rows right below u have serials, each its own, and the lines tell them
 pub record Below (ls : List Line) (u : Row) (rows : List Row) : Type 0 where
@@ -122,8 +122,7 @@ module _ (version : ℕ) (form : Form) (ls : List Line) (owner txt : Bytes) (u :
 
   module _ (c : Context Bytes) where
     insert_rows : (q : Quantifier) (n : Bytes) (t : Members Bytes) → deep (length form) form n ≡ true
-        → children_after (edit_plan version form ls owner txt (insert q n) c t) u (front ++ back)
-        ≡ front ++ child_rows bytes name_of (map element_row) (filled_rows version form) (insert q n) c t back
+        → children_after (edit_plan version form ls owner txt (insert q n) c t) u (front ++ back) ≡ front ++ child_rows bytes name_of (map element_row) (insert q n) c t back
     unfolding child_rows
     insert_rows q n t d =
         after_split (edit_plan version form ls owner txt (insert q n) c t) u (before_place c) front back refl below.given (λ x m. refl)
@@ -132,8 +131,7 @@ module _ (version : ℕ) (form : Form) (ls : List Line) (owner txt : Bytes) (u :
         (and_held (not (skips q) && spine c) (element_named owner u) named) (filling_heads version (length form) form txt n d) (keep_all (λ r. true) back (λ x m. refl)))
 
     remove_rows : (q : Quantifier) (x : Bytes) (t : Members Bytes)
-        → children_after (edit_plan version form ls owner txt remove c (el q x t)) u (front ++ back)
-        ≡ front ++ child_rows bytes name_of (map element_row) (filled_rows version form) remove c (el q x t) back
+        → children_after (edit_plan version form ls owner txt remove c (el q x t)) u (front ++ back) ≡ front ++ child_rows bytes name_of (map element_row) remove c (el q x t) back
     unfolding child_rows
     remove_rows q x t =
         after_split (edit_plan version form ls owner txt remove c (el q x t)) u [] front back refl below.given (λ y m. ap₂ (λ (a b : Bool). a && b) named (front_other x y m))
@@ -141,8 +139,7 @@ module _ (version : ℕ) (form : Form) (ls : List Line) (owner txt : Bytes) (u :
         ∙ ap (λ (z : List Row). front ++ z) (keep_erase (λ r. not (element_named owner u && element_named x r)) x back (λ y m. ap₂ (λ (a b : Bool). not (a && b)) named (named_is x y (elements y m))))
 
     quantify_rows : (q r : Quantifier) (x : Bytes) (t : Members Bytes) → deep (length form) form x ≡ true
-        → children_after (edit_plan version form ls owner txt (quantify r) c (el q x t)) u (front ++ back)
-        ≡ front ++ child_rows bytes name_of (map element_row) (filled_rows version form) (quantify r) c (el q x t) back
+        → children_after (edit_plan version form ls owner txt (quantify r) c (el q x t)) u (front ++ back) ≡ front ++ child_rows bytes name_of (map element_row) (quantify r) c (el q x t) back
     unfolding child_rows refit_rows
     quantify_rows q r x t d =
         after_split (edit_plan version form ls owner txt (quantify r) c (el q x t)) u (before_place c) front back refl below.given
@@ -169,29 +166,26 @@ module _ (version : ℕ) (form : Form) (ls : List Line) (owner txt : Bytes) (u :
             ∙ keep_first_lem x k back elements once_back (ap (serial_at 0) (seen_back (element_named x) (front_other x)))
         cut false = keep_all (λ y. true) back (λ y m. refl)
 
-    group_rows : (q r : Quantifier) (j : GroupKind) (ms t : Members Bytes) → ((m : Bytes) → Memᴰ m (group_filling version form r j ms) → deep (length form) form m ≡ true)
-        → children_after (edit_plan version form ls owner txt (quantify r) c (group q j ms t)) u (front ++ back)
-        ≡ front ++ child_rows bytes name_of (map element_row) (filled_rows version form) (quantify r) c (group q j ms t) back
+    group_rows : (q r : Quantifier) (j : GroupKind) (ms t : Members Bytes) → ((m : Bytes) → Memᴰ m (group_filling r j ms) → deep (length form) form m ≡ true)
+        → children_after (edit_plan version form ls owner txt (quantify r) c (group q j ms t)) u (front ++ back) ≡ front ++ child_rows bytes name_of (map element_row) (quantify r) c (group q j ms t) back
     unfolding child_rows refit_group_rows
     group_rows q r j ms t d =
         after_split (edit_plan version form ls owner txt (quantify r) c (group q j ms t)) u (before_place c) front back refl below.given (λ y m. refl)
         (λ e. (front_later (before_place c) u, back_later (before_place c) u))
         ∙ ap (λ (z : List Row). front ++ z) (
-        due_same _ ((spine c && gains q r) && not me) (before_place c) _ (map element_row (group_filling version form r j ms)) _ back
+        due_same _ ((spine c && gains q r) && not me) (before_place c) _ (map element_row (group_filling r j ms)) _ back
         (ap₂ (λ (a b : Bool). (spine c && gains q r) && (a && b)) named
         (ap is_none (seen_back (element_among (names ms)) (λ y m. not_element y.sort (member bytes y.name (names ms)) (attributes y m)))
         ∙ among_none (names ms) back elements))
-        (each_heads version (length form) form txt (group_filling version form r j ms) ((all_test (λ m. deep (length form) form m) (group_filling version form r j ms)).1 d))
-        (keep_all (λ r. true) back (λ x m. refl))
-        ∙ group_cases (spine c) (gains q r) me (before_place c) (map element_row (group_filling version form r j ms)) back)
+        (each_heads version (length form) form txt (group_filling r j ms) ((all_test (λ m. deep (length form) form m) (group_filling r j ms)).1 d)) (keep_all (λ r. true) back (λ x m. refl))
+        ∙ group_cases (spine c) (gains q r) me (before_place c) (map element_row (group_filling r j ms)) back)
       where
         me : Bool
         me = any_of bytes (names ms) (map name_of back)
 
     -- THE ROWS OF AN INSTANCE: the rows made for a name are one element
-    pub edit_rows : (e : Edit Bytes) (t : Members Bytes) → ((m : Bytes) → Memᴰ m (filled version form e t) → deep (length form) form m ≡ true)
-        → children_after (edit_plan version form ls owner txt e c t) u (front ++ back)
-        ≡ front ++ child_rows bytes name_of (map element_row) (filled_rows version form) e c t back
+    pub edit_rows : (e : Edit Bytes) (t : Members Bytes) → ((m : Bytes) → Memᴰ m (filled e t) → deep (length form) form m ≡ true)
+        → children_after (edit_plan version form ls owner txt e c t) u (front ++ back) ≡ front ++ child_rows bytes name_of (map element_row) e c t back
     unfolding child_rows
     edit_rows (insert q n) t d = insert_rows q n t (d n (Memᴰ.head refl))
     edit_rows remove done d = keeping_rows

@@ -2,12 +2,12 @@
 use Prim.Native.Nat.{ℕ}
 use mathlib.Core.Path.{◌≡◌, refl, sym, ap, ◌∙◌}
 use mathlib.Core.Logic.{◌⊎◌, inl, inr, ⊎_elim}
-use mathlib.Core.Bool.{Bool, true, false, ◌&&◌, ◌||◌, not, false≢true}
+use mathlib.Core.Bool.{Bool, true, false, ◌&&◌, not, false≢true}
 use mathlib.Core.Option.{some}
 use mathlib.Core.List.Memᴰ
 use mathlib.Core.List.{List, [], ◌∷◌, ◌++◌, map, Memᴰ}
 use Rattle.rules.specs.Bytes.{Bytes, same, bytes}
-use Rattle.rules.specs.Model.{Members, done, el, group, names, skips, nothing, unless, filling, member}
+use Rattle.rules.specs.Model.{Members, done, el, group, names, skips, member}
 use Rattle.rules.specs.Language.{Conforms}
 use Rattle.rules.specs.Quantifiers.{gains, cuts}
 use Rattle.rules.specs.Place.{Context, spine, before_place, Found}
@@ -16,8 +16,9 @@ use Rattle.rules.specs.Automaton.{accepts}
 use Rattle.rules.specs.Store.{complex, Definition, Form, element, Row}
 use Rattle.rules.specs.WellFormed.{lookup, well_formed}
 use Rattle.rules.specs.Conforming.{name_of, Sorted, ElementRows, fits_definition}
-use Rattle.rules.specs.Filling.{filled_rows, element_row}
+use Rattle.rules.specs.Filling.{element_row}
 use Rattle.rules.specs.Lines.{Line, element_named}
+use Rattle.rules.specs.Change.{group_filling}
 use Rattle.rules.proofs.Children.{any_of, misplaced, unfit, Sound}
 use Rattle.rules.proofs.ChildRows.{erase_rows, place_rows, first_rows, refit_rows, refit_group_rows, child_rows}
 use Rattle.rules.proofs.Rows.{child_rows_lem}
@@ -59,7 +60,7 @@ place_in_lem ns f (r ∷ rs) y m = by (member bytes r.name ns) refl (place_in_le
     by false e h = Memᴰ.append_cases f (rw (e, place_rows) at m)
 
 -- rows of one kind stay so, if the new ones are of it
-module _ (P : Row → Type 0) (rows : List Bytes → ℕ) (fill : List Bytes → List Row) (new : (ns : List Bytes) (y : Row) → Memᴰ y (fill ns) → P y) where
+module _ (P : Row → Type 0) (fill : List Bytes → List Row) (new : (ns : List Bytes) (y : Row) → Memᴰ y (fill ns) → P y) where
   abbrev Each : List Row → Type 0
   Each rs = (y : Row) → Memᴰ y rs → P y
 
@@ -70,7 +71,7 @@ module _ (P : Row → Type 0) (rows : List Bytes → ℕ) (fill : List Bytes →
   each_placed : (ns ms : List Bytes) (rs : List Row) → Each rs → Each (place_rows bytes name_of ns (fill ms) rs)
   each_placed ns ms rs f y m = ⊎_elim (λ i. new ms y i) (λ i. f y i) (place_in_lem ns (fill ms) rs y m)
 
-  pub each_child : (e : Edit Bytes) (c : Context Bytes) (t : Members Bytes) (rs : List Row) → Each rs → Each (child_rows bytes name_of fill rows e c t rs)
+  pub each_child : (e : Edit Bytes) (c : Context Bytes) (t : Members Bytes) (rs : List Row) → Each rs → Each (child_rows bytes name_of fill e c t rs)
   unfolding child_rows refit_rows refit_group_rows
   each_child (insert q n) c t rs f = each_if (not (skips q) && spine c) _ _ (each_placed (before_place c) (n ∷ []) rs f) f
   each_child remove c done rs f = f
@@ -83,8 +84,7 @@ module _ (P : Row → Type 0) (rows : List Bytes → ℕ) (fill : List Bytes →
       (each_if (gains q r) _ _ (each_placed (before_place c) (x ∷ []) rs f) f))
       f
   each_child (quantify r) c (group q k ms t) rs f =
-      each_if (spine c) _ _ (each_if (gains q r) _ _ (each_if (any_of bytes (names ms) (map name_of rs)) _ _ f
-      (each_placed (before_place c) (unless (skips r || nothing k ms) (filling rows k ms)) rs f)) f) f
+      each_if (spine c) _ _ (each_if (gains q r) _ _ (each_if (any_of bytes (names ms) (map name_of rs)) _ _ f (each_placed (before_place c) (group_filling r k ms) rs f)) f) f
   each_child (convert j n) c t rs f = f
   each_child flatten c t rs f = f
 
@@ -104,13 +104,13 @@ leaves_rows (quantify r) = false
 leaves_rows (convert j n) = true
 leaves_rows flatten = true
 
-rows_left_lem : (rows : List Bytes → ℕ) (e : Edit Bytes) (c : Context Bytes) (t : Members Bytes) → leaves_rows e ≡ true → (rs : List Row) → child_rows bytes name_of (map element_row) rows e c t rs ≡ rs
+rows_left_lem : (e : Edit Bytes) (c : Context Bytes) (t : Members Bytes) → leaves_rows e ≡ true → (rs : List Row) → child_rows bytes name_of (map element_row) e c t rs ≡ rs
 unfolding child_rows
-rows_left_lem rows (insert q n) c t l rs = absurd (false≢true l)
-rows_left_lem rows remove c t l rs = absurd (false≢true l)
-rows_left_lem rows (quantify r) c t l rs = absurd (false≢true l)
-rows_left_lem rows (convert j n) c t l rs = refl
-rows_left_lem rows flatten c t l rs = refl
+rows_left_lem (insert q n) c t l rs = absurd (false≢true l)
+rows_left_lem remove c t l rs = absurd (false≢true l)
+rows_left_lem (quantify r) c t l rs = absurd (false≢true l)
+rows_left_lem (convert j n) c t l rs = refl
+rows_left_lem flatten c t l rs = refl
 
 -- the owner with its new model
 abbrev pub edited_definition : Definition → Edit Bytes → Found Bytes → Definition
@@ -126,7 +126,7 @@ module _ (version w : ℕ) (form : Form) (ok : well_formed w form ≡ true) (d :
   after_sound = change_sound bytes e p ms f (place_of_lem e p ms f found) fits before_sound
 
   element_fits_lem : (rows : List Row) (x : ElementRows version d rows)
-      → fits_definition version (some (edited_definition d e f)) (x.front ++ child_rows bytes name_of (map element_row) (filled_rows version form) e f.context f.picked x.back) ≡ true
+      → fits_definition version (some (edited_definition d e f)) (x.front ++ child_rows bytes name_of (map element_row) e f.context f.picked x.back) ≡ true
   element_fits_lem rows x =
       (element_is version (edited_definition d e f) after_sound.distinct (definition_good w form ok d.name d at).attribute_names (x.front ++ rest)).1
       record {
@@ -135,16 +135,16 @@ module _ (version w : ℕ) (form : Form) (ok : well_formed w form ≡ true) (d :
         split = refl;
         attributes = x.attributes;
         content = (
-          each_child (λ y. y.sort ≡ element) (filled_rows version form) (map element_row) element_sorts e f.context f.picked x.back content.0,
+          each_child (λ y. y.sort ≡ element) (map element_row) element_sorts e f.context f.picked x.back content.0,
           (accepts_conforms bytes (model_after e f) after_sound.distinct (map name_of rest)).0 (
-              ap (accepts bytes (model_after e f)) (child_rows_lem name_of bytes (map element_row) element_names (filled_rows version form) e f.context f.picked x.back)
-              ∙ change_accepts bytes e p ms f (place_of_lem e p ms f found) fits before_sound (filled_rows version form) kept (map name_of x.back)
+              ap (accepts bytes (model_after e f)) (child_rows_lem name_of bytes (map element_row) element_names e f.context f.picked x.back)
+              ∙ change_accepts bytes e p ms f (place_of_lem e p ms f found) fits before_sound kept (map name_of x.back)
               ((accepts_conforms bytes ms before_sound.distinct (map name_of x.back)).1 content.1)),
         );
       }
     where
       rest : List Row
-      rest = child_rows bytes name_of (map element_row) (filled_rows version form) e f.context f.picked x.back
+      rest = child_rows bytes name_of (map element_row) e f.context f.picked x.back
 
       content : Sorted element x.back × Conforms ms (map name_of x.back)
       content = rw is at x.content
@@ -166,5 +166,5 @@ module _ (version w : ℕ) (form : Form) (ok : well_formed w form ≡ true) (d :
           ap (fits_definition version (some (edited_definition d e f))) (
           ap (children_after (edit_plan version form ls d.name txt e f.context f.picked) u) (sym x.split)
           ∙ edit_rows version form ls d.name txt u x.front x.back named (rw x.split below) x.attributes.sorts (elements x) f.context e f.picked
-          (λ m k. definition_deep w form ok m (filled_outside w form ok d at ms is e p f found version i m k).known))
+          (λ m k. definition_deep w form ok m (filled_outside w form ok d at ms is e p f found i m k).known))
           ∙ element_fits_lem rows x

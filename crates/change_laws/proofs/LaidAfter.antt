@@ -120,7 +120,7 @@ module _ (w next : ℕ) (docs : Forest Row) (serials : GoodSerials next docs) wh
         by : (t : Members Bytes) → Lays (quantify_plan version form ls owner txt q f.context t)
         by done = lays_rows keeping refl refl
         by (el old x t) = lays_rows (quantify_plan version form ls owner txt q f.context (el old x t)) refl (fill_laid version w form ok txt v x)
-        by (group old k ms t) = lays_rows (quantify_plan version form ls owner txt q f.context (group old k ms t)) refl (fills_laid version w form ok txt v (group_filling version form q k ms))
+        by (group old k ms t) = lays_rows (quantify_plan version form ls owner txt q f.context (group old k ms t)) refl (fills_laid version w form ok txt v (group_filling q k ms))
 
     drop_lays : (above : Owned → Row → Bool) (o : Option Owned) → Lays (drop_plan above o)
     drop_lays above none = lays_rows keeping refl refl

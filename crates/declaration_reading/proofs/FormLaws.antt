@@ -91,9 +91,9 @@ module _ (ls : List Bytes) {o : ℕ} (f : FormFits o ls) where
   unfolding said_particles
   particles_size ns = omega (arith, length_each particle_bytes particle_size length_particle (particles_of_lines ns ls), (particles_alike ns [] ls).long, f.particles)
 
-  pub attributes_size_lem : (w : ℕ) → Width w → length (said_attributes w 0 ls) ≤ 17664
+  pub attributes_size : (w : ℕ) → Width w → length (said_attributes w 0 ls) ≤ 17664
   unfolding said_attributes
-  attributes_size_lem w h =
+  attributes_size w h =
       let few : length (attributes_of_lines w 0 ls) ≤ 64 = omega (arith, attributes_alike w 0 0 0 ls, f.attributes) in
       omega (arith, length_each (attribute_bytes w) (attribute_size w) (length_attribute w) (attributes_of_lines w 0 ls), attributes_few w (length (attributes_of_lines w 0 ls)) h few)
 
@@ -194,7 +194,7 @@ module _ {ls : List Bytes} (f : FormFits 0 ls) {d : ℕ} {defs : Bytes} {size : 
     module _ {w : ℕ} (g : Width w) {o₂ : Bytes} {a₂ : ℕ} (y : Laid (said_particles (written_names d defs) ls) o₁ a₁ a₂ o₂) where
       pub attributes_ready : Ready (Attributes w) defs a₂ 0 ls
       attributes_ready =
-          record { asks = g; fits = f; room = omega (arith, defined_next, y.next, particles_size ls f (written_names d defs), attributes_size_lem ls f w g) }
+          record { asks = g; fits = f; room = omega (arith, defined_next, y.next, particles_size ls f (written_names d defs), attributes_size ls f w g) }
 
       pub bodies_laid : {o₃ : Bytes} {r : ℕ} → Laid (said_attributes w 0 ls) o₂ a₂ r o₃ → Laid (form_bodies w ls) out at r o₃
       unfolding form_bodies

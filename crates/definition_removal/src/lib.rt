@@ -329,8 +329,7 @@ fn put_rows_left(store: &[u8], i: u32, out: &mut [u8], at: usize) -> usize
 {
     let own = attribute_range(store, i);
     let plan = shifting(i as usize + 1, own.end, own.end - own.start);
-    let numbers = planned_rows::numbers_of(store);
-    let after = planned_rows::walk_rows(store, &numbers, plan, &store[..0], at, out);
+    let after = planned_rows::walk_rows(store, plan, &store[..0], at, out);
     after.at
 }
 

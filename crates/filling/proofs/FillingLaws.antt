@@ -10,8 +10,9 @@ use lib.Dec.{eqb, ltb}
 use lib.ListN.{length, take, drop, get_or, length-take, length-drop}
 use Rattle.rules.specs.declared.GroupKind.{GroupKind}
 use Rattle.rules.specs.declared.GroupKind.TheVariants.{Sequence, Choice}
+use Rattle.rules.specs.declared.Quantifier.{Quantifier}
 use Rattle.rules.specs.Bytes.{Bytes}
-use Rattle.rules.specs.Model.{Members, done, el, group, skips, nothing, unless, filling}
+use Rattle.rules.specs.Model.{Members, done, el, group, skips, both, neutral, nothing, unless, beside, filling}
 use Rattle.rules.specs.Preorder.{Deep}
 use Rattle.rules.specs.Layout.{attribute_size, FlatRow}
 use Rattle.rules.specs.Decode.{quantifier_of, read_particle, read_attribute, sort_of}
@@ -24,26 +25,20 @@ use Rattle.model.specs.declared.What.TheVariants.{Element, Group}
 use Rattle.model.specs.declared.Particle.{Particle}
 use Rattle.model.specs.Particle.{what_of, particle_of}
 use Rattle.model.specs.Members.{index_member, members_from, all_members}
-use Rattle.model.proofs.MembersLaws.{members_few, members_stop, members_here}
+use Rattle.model.proofs.MembersLaws.{members_few, members_deeper, members_stop, members_here}
 use Rattle.form_index.specs.Indices.{IndexForm}
 use Rattle.layout.specs.Bodies.{record_at}
 use Rattle.layout.proofs.LayoutLaws.{attribute_value_short}
 use Rattle.form_index.specs.Reading.{definition_in, attribute_in, particles_before, model_part, attributes_of, index_form}
-use Rattle.least_member.specs.declared.Least.{Least}
-use Rattle.least_member.specs.Counting.{rows_lent}
-use Rattle.least_member.specs.Particles.{group_filled, what_filling, member_filling, filled_from, Chosen}
-use Rattle.least_member.proofs.MemberLaws.{members_past, filling_few, filling_there, list_filled}
-use Rattle.nothing_check.specs.Accepting.{left_out, passed}
-use Rattle.nothing_check.proofs.AcceptingLaws.{not_passed}
-use Rattle.nothing_check.proofs.NeededLaws.{unless_none}
 use Rattle.row_writer.specs.declared.Cursor.{Cursor}
 use Rattle.row_writer.specs.Written.{Written, Room, new_row}
 use Rattle.row_writer.proofs.WrittenLaws.{written_none, written_then, written_as, written_room, written_long}
+use Rattle.filling.proofs.NeededLaws.{unless_none}
 use Rattle.filling.specs.declared.Filling.{Filling}
 use Rattle.filling.specs.declared.Filling.TheVariants.{Nothing, Definition, Attribute, Particles}
-use Rattle.filling.specs.Fillings.{new_element, new_attribute_row, required_rows, fillings_of, content_rows, fill_index, filling_rows}
-use Rattle.filling.specs.Parts.{value_in, required_at, required_in}
-use Rattle.filling.specs.Parts.{index_form_in, definition_rows, member_rows, below_rows, members_read_at, first_or_all, part_filling, GroupPart, Indexed}
+use Rattle.filling.specs.Fillings.{new_element, new_attribute_row, required_rows, fillings_of, content_rows, fill_index, group_filled, filling_rows}
+use Rattle.filling.specs.Parts.{left_out, passed, settled, sort_nothing, member_nothing, what_filling, member_filling, value_in, required_at, required_in}
+use Rattle.filling.specs.Parts.{index_form_in, definition_rows, member_rows, below_rows, members_read_at, Indexed}
 use Rattle.layout.specs.Fields.{particle_depth_at, particle_index_at, particle_quantifier_at, particle_sort_at}
 use Rattle.rules.specs.Layout.{particle_size}
 
@@ -60,6 +55,23 @@ created_told w attrs j b k u v e s t x =
       x ∙ ap₂ (λ (y : ℕ) (z : Bytes). created_value (sort_of y) z) (s ∙ ap (λ (z : Bytes). (read_attribute z).sort) e) (t ∙ ap (λ (z : Bytes). (read_attribute z).value) e),
       omega (arith, ap length x, created_short (sort_of k) u, ap length t, attribute_value_short b w long),
     )
+
+-- ---- the code of a quantifier, b, read of n
+module _ (b n : ℕ) (e : b ≡ n) where
+  pub optional_code : b ≡ 1 → true ≡ skips (quantifier_of n)
+  optional_code q = let z : n ≡ 1 = sym e ∙ q in rw z
+
+  pub optional_code_2 : b ≡ 2 → true ≡ skips (quantifier_of n)
+  optional_code_2 q = let z : n ≡ 2 = sym e ∙ q in rw z
+
+  pub needed_code : (b ≡ 1 → ⊥) → (b ≡ 2 → ⊥) → false ≡ skips (quantifier_of n)
+  needed_code x y = by n (λ q. x (e ∙ q)) (λ q. y (e ∙ q))
+    where
+      by : (k : ℕ) → (k ≡ 1 → ⊥) → (k ≡ 2 → ⊥) → false ≡ skips (quantifier_of k)
+      by zero x y = refl
+      by (suc zero) x y = absurd (x refl)
+      by (suc (suc zero)) x y = absurd (y refl)
+      by (suc (suc (suc k))) x y = refl
 
 -- ---- attributes
 module _ (F : IndexForm) (value : ℕ → Bytes) (d i : ℕ) where
@@ -128,117 +140,240 @@ pub record Putting (version w : ℕ) (attrs : Bytes) (d i a : ℕ) (c : Cursor) 
   pub written : Written w (required_in version w attrs d i j) c out r out'
   pub low : j ≤ a
 
--- ---- what is written of the members of depth d that s begins with, in a group of kind k; own: the depth of the first
--- particle
-module _ (rows : List ℕ → ℕ) (d : ℕ) (k : GroupKind) (s : Bytes) where
-  pub part_few : length s < particle_size → part_filling rows k (members_from d s) ≡ []
-  unfolding part_filling
-  part_few h = rw (members_few d s h)
+-- ---- the members of depth d that s begins with
+module _ (d : ℕ) (k : GroupKind) (s : Bytes) where
+  pub group_few : length s < particle_size → filling k (members_from d s) ≡ []
+  unfolding filling
+  group_few h = rw (members_few d s h)
 
   module _ (own : ℕ) (h : particle_size ≤ length s) (g : own ≡ get_or s particle_depth_at 0) where
-    part_deeper : d < own → part_filling rows k (members_from d s) ≡ part_filling rows k (members_from d (take (length s - particle_size) (drop particle_size s)))
-    part_deeper l = ap (λ (ms : Members ℕ). part_filling rows k ms) (members_past d s own h g l)
+    pub group_deeper : d < own → filling k (members_from d s) ≡ filling k (members_from d (take (length s - particle_size) (drop particle_size s)))
+    group_deeper l = rw (tail_seen s particle_size, members_deeper d s h (omega arith))
 
-    pub part_stop : own < d → part_filling rows k (members_from d s) ≡ []
-    unfolding part_filling
-    part_stop l = rw (members_stop d s h (omega arith))
+    pub group_stop : own < d → filling k (members_from d s) ≡ []
+    unfolding filling
+    group_stop l = rw (members_stop d s h (omega arith))
 
-    pub part_here : own ≤ d → d ≤ own
-        → part_filling rows k (members_from d s) ≡ first_or_all k (member_filling rows d s) (part_filling rows k (members_from d (take (length s - particle_size) (drop particle_size s))))
-    unfolding part_filling member_filling particle_of
-    part_here l m = rw (tail_seen s particle_size, members_here d s h (omega arith)) (by (get_or s particle_sort_at 0))
+    pub group_here_lem : own ≤ d → d ≤ own → filling k (members_from d s) ≡ beside k (member_filling d s) (filling k (members_from d (take (length s - particle_size) (drop particle_size s))))
+    unfolding filling member_filling particle_of
+    group_here_lem l m = rw (tail_seen s particle_size, members_here d s h (omega arith)) (by (get_or s particle_sort_at 0))
       where
         by : (sort : ℕ)
-            → part_filling rows k (index_member (read_particle s).row sort (members_from (suc d) (drop particle_size s)) (members_from d (drop particle_size s)))
-            ≡ first_or_all k (what_filling rows (particle_of (read_particle s)).quantifier (what_of sort (get_or s particle_index_at 0)) (members_from (suc d) (drop particle_size s)))
-            (part_filling rows k (members_from d (drop particle_size s)))
+            → filling k (index_member (read_particle s).row sort (members_from (suc d) (drop particle_size s)) (members_from d (drop particle_size s)))
+            ≡ beside k
+            (what_filling (particle_of (read_particle s)).quantifier (what_of sort (get_or s particle_index_at 0)) (members_from (suc d) (drop particle_size s)))
+            (filling k (members_from d (drop particle_size s)))
         by zero = refl
         by (suc n) = refl
 
     left_out_lem : own ≤ d → d ≤ own → left_out k (quantifier_of (get_or s particle_quantifier_at 0)) ≡ true
-        → part_filling rows k (members_from d s) ≡ part_filling rows k (members_from d (take (length s - particle_size) (drop particle_size s)))
+        → filling k (members_from d s) ≡ filling k (members_from d (take (length s - particle_size) (drop particle_size s)))
     unfolding member_filling particle_of
-    left_out_lem l m z = part_here l m ∙ by k (what_of (get_or s particle_sort_at 0) (get_or s particle_index_at 0)) z
+    left_out_lem l m z = group_here_lem l m ∙ by k (what_of (get_or s particle_sort_at 0) (get_or s particle_index_at 0)) z
       where
         rest : List ℕ
-        rest = part_filling rows k (members_from d (take (length s - particle_size) (drop particle_size s)))
+        rest = filling k (members_from d (take (length s - particle_size) (drop particle_size s)))
 
         by : (j : GroupKind) (x : What) → left_out j (quantifier_of (get_or s particle_quantifier_at 0)) ≡ true
-            → first_or_all j (what_filling rows (quantifier_of (get_or s particle_quantifier_at 0)) x (members_from (suc d) (drop particle_size s))) rest ≡ rest
+            → beside j (what_filling (quantifier_of (get_or s particle_quantifier_at 0)) x (members_from (suc d) (drop particle_size s))) rest ≡ rest
         by Sequence (Element i) z = rw z
         by Sequence (Group g n) z = rw z
         by Choice x z = absurd (false≢true z)
 
-    -- the group goes past it: it is deeper, or a member of a LIST that may be absent
-    pub part_past : d ≤ own → passed d k own (quantifier_of (get_or s particle_quantifier_at 0)) ≡ true
-        → part_filling rows k (members_from d s) ≡ part_filling rows k (members_from d (take (length s - particle_size) (drop particle_size s)))
-    part_past m z = by (ltb d own) refl z
+    -- the particle that s begins with is one that the group goes past
+    pub group_past : d ≤ own → passed d k own (quantifier_of (get_or s particle_quantifier_at 0)) ≡ true
+        → filling k (members_from d s) ≡ filling k (members_from d (take (length s - particle_size) (drop particle_size s)))
+    group_past m z = by (ltb d own) refl z
       where
         by : (b : Bool) → ltb d own ≡ b → (b || left_out k (quantifier_of (get_or s particle_quantifier_at 0))) ≡ true
-            → part_filling rows k (members_from d s) ≡ part_filling rows k (members_from d (take (length s - particle_size) (drop particle_size s)))
-        by true q z = part_deeper (ltb-true d own q)
+            → filling k (members_from d s) ≡ filling k (members_from d (take (length s - particle_size) (drop particle_size s)))
+        by true q z = group_deeper (ltb-true d own q)
         by false q z = left_out_lem (ltb-false d own q) m z
 
--- of a LIST all is written
-part_list : (rows : List ℕ → ℕ) (ms : Members ℕ) → part_filling rows Sequence ms ≡ filling rows Sequence ms
-unfolding part_filling filling
-part_list rows done = refl
-part_list rows (el q n rest) = ap (λ (z : List ℕ). unless (skips q) (n ∷ []) ++ z) (part_list rows rest)
-part_list rows (group q j ms rest) = ap (λ (z : List ℕ). unless (skips q || nothing j ms) (filling rows j ms) ++ z) (part_list rows rest)
+not_passed : (d : ℕ) (k : GroupKind) (own : ℕ) (q : Quantifier) → passed d k own q ≡ false → own ≤ d
+not_passed d k own q z = by (ltb d own) refl z
+  where
+    by : (b : Bool) → ltb d own ≡ b → (b || left_out k q) ≡ false → own ≤ d
+    by true e z = absurd (false≢true (sym z))
+    by false e z = ltb-false d own e
 
--- ---- a group, where its quantifier needs it, whose members fill with nothing
-pub group_none : (rows : List ℕ → ℕ) (k : GroupKind) (ms : Members ℕ) → filling rows k ms ≡ [] → group_filled rows k ms ≡ []
-unfolding group_filled
-group_none rows k ms h = unless_none (nothing k ms) (filling rows k ms) h
+-- ---- whether they accept nothing
+-- a member that settles it, and one that does not
+settled_by : (k : GroupKind) (b x : Bool) → settled k b ≡ true → b ≡ both k b x
+settled_by Sequence true x z = absurd (false≢true z)
+settled_by Sequence false x z = refl
+settled_by Choice true x z = refl
+settled_by Choice false x z = absurd (false≢true z)
 
--- ---- the part of which so much is written
-module _ (ks : List ℕ) (d : ℕ) (s : Bytes) where
-  -- of a LIST the whole
-  pub part_whole : (k : GroupKind) → k ≡ Sequence → GroupPart ks k d s s
-  part_whole k e =
-      subst (λ (z : GroupKind). GroupPart ks z d s s) (sym e)
-      (record { filled = list_filled (rows_lent ks) (members_from d s) ∙ sym (part_list (rows_lent ks) (members_from d s)); short = omega arith })
+settled_later : (k : GroupKind) (b x : Bool) → settled k b ≡ false → both k b x ≡ x
+settled_later Sequence true x z = refl
+settled_later Sequence false x z = absurd (false≢true (sym z))
+settled_later Choice true x z = absurd (false≢true (sym z))
+settled_later Choice false x z = refl
 
-  -- of a CHOICE what is written of its own part
-  pub part_choice : (k : GroupKind) {r : Bytes} → k ≡ Choice → GroupPart ks Choice d s r → GroupPart ks k d s r
-  part_choice k {r} e p = subst (λ (z : GroupKind). GroupPart ks z d s r) (sym e) p
+module _ (d : ℕ) (k : GroupKind) (s : Bytes) (own : ℕ) (h : particle_size ≤ length s) (g : own ≡ get_or s particle_depth_at 0) where
+  nothing_here : own ≤ d → d ≤ own → nothing k (members_from d s) ≡ both k (member_nothing d s) (nothing k (members_from d (take (length s - particle_size) (drop particle_size s))))
+  unfolding nothing member_nothing
+  nothing_here l m = rw (tail_seen s particle_size, members_here d s h (omega arith)) (by (get_or s particle_sort_at 0))
+    where
+      by : (sort : ℕ)
+          → nothing k (index_member (read_particle s).row sort (members_from (suc d) (drop particle_size s)) (members_from d (drop particle_size s)))
+          ≡ both k (sort_nothing (quantifier_of (get_or s particle_quantifier_at 0)) sort (members_from (suc d) (drop particle_size s))) (nothing k (members_from d (drop particle_size s)))
+      by zero = refl
+      by (suc n) = refl
 
-  -- b: the CHOICE accepts nothing
-  module _ (b : Bool) (t : b ≡ nothing Choice (members_from d s)) where
-    choice_told : group_filled (rows_lent ks) Choice (members_from d s) ≡ unless b (filling (rows_lent ks) Choice (members_from d s))
-    unfolding group_filled
-    choice_told = ap (λ (z : Bool). unless z (filling (rows_lent ks) Choice (members_from d s))) (sym t)
+  nothing_left_out : own ≤ d → d ≤ own → left_out k (quantifier_of (get_or s particle_quantifier_at 0)) ≡ true
+      → nothing k (members_from d s) ≡ nothing k (members_from d (take (length s - particle_size) (drop particle_size s)))
+  unfolding member_nothing
+  nothing_left_out l m z = nothing_here l m ∙ by k (get_or s particle_sort_at 0) z
+    where
+      rest : Bool
+      rest = nothing k (members_from d (take (length s - particle_size) (drop particle_size s)))
 
-    pub chosen_nothing : (r : Bytes) → b ≡ true → length r ≡ 0 → GroupPart ks Choice d s r
-    chosen_nothing r q e =
-        record {
-          filled = choice_told ∙ ap (λ (z : Bool). unless z (filling (rows_lent ks) Choice (members_from d s))) q ∙ sym (part_few (rows_lent ks) d Choice r (omega (arith, e)));
-          short = omega (arith, e);
-        }
+      by : (j : GroupKind) (sort : ℕ) → left_out j (quantifier_of (get_or s particle_quantifier_at 0)) ≡ true
+          → both j (sort_nothing (quantifier_of (get_or s particle_quantifier_at 0)) sort (members_from (suc d) (drop particle_size s))) rest ≡ rest
+      by Sequence zero z = rw z
+      by Sequence (suc n) z = rw z
+      by Choice sort z = absurd (false≢true z)
 
-    -- the particles from the chosen member on
-    from_member : {least : Least} → Chosen ks d s least
-        → filled_from (rows_lent ks) d (drop least.at s) ≡ part_filling (rows_lent ks) Choice (members_from d (drop least.at s))
-    from_member {least} c = by (ltb (length u) particle_size) refl
+  nothing_past : d ≤ own → passed d k own (quantifier_of (get_or s particle_quantifier_at 0)) ≡ true
+      → nothing k (members_from d s) ≡ nothing k (members_from d (take (length s - particle_size) (drop particle_size s)))
+  nothing_past m z = by (ltb d own) refl z
+    where
+      deeper : d < own → nothing k (members_from d s) ≡ nothing k (members_from d (take (length s - particle_size) (drop particle_size s)))
+      deeper l = rw (tail_seen s particle_size, members_deeper d s h (omega arith))
+
+      by : (b : Bool) → ltb d own ≡ b → (b || left_out k (quantifier_of (get_or s particle_quantifier_at 0))) ≡ true
+          → nothing k (members_from d s) ≡ nothing k (members_from d (take (length s - particle_size) (drop particle_size s)))
+      by true q z = deeper (ltb-true d own q)
+      by false q z = nothing_left_out (ltb-false d own q) m z
+
+-- the members from t on accept nothing if and only if those from s on do
+pub record Unsettled (k : GroupKind) (d : ℕ) (s t : Bytes) : Type 0 where
+  pub same : nothing k (members_from d s) ≡ nothing k (members_from d t)
+  pub short : length t ≤ length s
+
+pub unsettled_starts : (k : GroupKind) (d : ℕ) (s : Bytes) → Unsettled k d s s
+unsettled_starts k d s = record { same = refl; short = omega arith }
+
+module _ {k : GroupKind} {d : ℕ} {s t : Bytes} (i : Unsettled k d s t) where
+  -- there is no particle more
+  pub unsettled_ends : {b : Bool} → length t < particle_size → b ≡ neutral k → b ≡ nothing k (members_from d s)
+  unfolding nothing
+  unsettled_ends l e = e ∙ sym (ap (λ (ms : Members ℕ). nothing k ms) (members_few d t l)) ∙ sym i.same
+
+  module _ (l : particle_size ≤ length t) (own : ℕ) (g : own ≡ get_or t particle_depth_at 0) where
+    unsettled_next : length (take (length t - particle_size) (drop particle_size t)) ≤ length s
+    unsettled_next = omega (arith, i.short, length-take (length t - particle_size) (drop particle_size t), length-drop particle_size t)
+
+    -- the particle that t begins with stands outside the group
+    pub unsettled_over : {b : Bool} → own < d → b ≡ neutral k → b ≡ nothing k (members_from d s)
+    unfolding nothing
+    unsettled_over m e = e ∙ sym (ap (λ (ms : Members ℕ). nothing k ms) (members_stop d t l (omega arith))) ∙ sym i.same
+
+    -- u: the group goes past it
+    module _ (m : d ≤ own) (u : Bool) (o : u ≡ passed d k own (quantifier_of (get_or t particle_quantifier_at 0))) where
+      pub unsettled_past : u ≡ true → Unsettled k d s (take (length t - particle_size) (drop particle_size t))
+      unsettled_past y = record { same = i.same ∙ nothing_past d k t own l g m (sym o ∙ y); short = unsettled_next }
+
+      pub unsettled_here : u ≡ false → own ≤ d
+      unsettled_here n = not_passed d k own (quantifier_of (get_or t particle_quantifier_at 0)) (sym o ∙ n)
+
+      -- b: it is a member, and accepts nothing; z: it settles the group
+      module _ (n : u ≡ false) (b : Bool) (e : b ≡ member_nothing d t) (z : Bool) (f : z ≡ settled k b) where
+        told_here : nothing k (members_from d t) ≡ both k b (nothing k (members_from d (take (length t - particle_size) (drop particle_size t))))
+        told_here = nothing_here d k t own l g (unsettled_here n) m ∙ ap (λ (y : Bool). both k y (nothing k (members_from d (take (length t - particle_size) (drop particle_size t))))) (sym e)
+
+        pub unsettled_by : z ≡ true → b ≡ nothing k (members_from d s)
+        unsettled_by q = settled_by k b (nothing k (members_from d (take (length t - particle_size) (drop particle_size t)))) (sym f ∙ q) ∙ sym told_here ∙ sym i.same
+
+        pub unsettled_on : z ≡ false → Unsettled k d s (take (length t - particle_size) (drop particle_size t))
+        unsettled_on q =
+            record {
+              same = i.same ∙ told_here ∙ settled_later k b (nothing k (members_from d (take (length t - particle_size) (drop particle_size t)))) (sym f ∙ q);
+              short = unsettled_next;
+            }
+
+-- the particle of depth d that s begins with; b: its quantifier lets it be absent, sort: its sort
+module _ (d : ℕ) (s : Bytes) (b : Bool) (e : b ≡ skips (quantifier_of (get_or s particle_quantifier_at 0))) where
+  pub absent_skips : b ≡ true → true ≡ member_nothing d s
+  unfolding member_nothing
+  absent_skips q = let z : skips (quantifier_of (get_or s particle_quantifier_at 0)) ≡ true = sym e ∙ q in by (get_or s particle_sort_at 0) z
+    where
+      by : (sort : ℕ) → skips (quantifier_of (get_or s particle_quantifier_at 0)) ≡ true → true ≡ sort_nothing (quantifier_of (get_or s particle_quantifier_at 0)) sort (members_from (suc d) (drop particle_size s))
+      by zero z = sym z
+      by (suc n) z = rw z
+
+  module _ (q : b ≡ false) (sort : ℕ) (t : sort ≡ get_or s particle_sort_at 0) where
+    by_sort : member_nothing d s ≡ sort_nothing (quantifier_of (get_or s particle_quantifier_at 0)) sort (members_from (suc d) (drop particle_size s))
+    unfolding member_nothing
+    by_sort = ap (λ (n : ℕ). sort_nothing (quantifier_of (get_or s particle_quantifier_at 0)) n (members_from (suc d) (drop particle_size s))) (sym t)
+
+    pub absent_element : sort ≡ 0 → false ≡ member_nothing d s
+    absent_element x = let z : skips (quantifier_of (get_or s particle_quantifier_at 0)) ≡ false = sym e ∙ q in sym (by_sort ∙ rw x z)
+
+    module _ (u : Bool) where
+      inside_told : (k : GroupKind) → u ≡ nothing k (members_from (d + 1) (take (length s - particle_size) (drop particle_size s)))
+          → u ≡ (skips (quantifier_of (get_or s particle_quantifier_at 0)) || nothing k (members_from (suc d) (drop particle_size s)))
+      inside_told k x = let z : skips (quantifier_of (get_or s particle_quantifier_at 0)) ≡ false = sym e ∙ q in
+          rw z (x ∙ ap₂ (λ (n : ℕ) (y : Bytes). nothing k (members_from n y)) (add-one d) (tail_seen s particle_size))
+
+      pub absent_list : sort ≡ 1 → u ≡ nothing Sequence (members_from (d + 1) (take (length s - particle_size) (drop particle_size s))) → u ≡ member_nothing d s
+      absent_list x y = inside_told Sequence y ∙ sym (by_sort ∙ rw x)
+
+      pub absent_choice : (sort ≡ 0 → ⊥) → (sort ≡ 1 → ⊥) → u ≡ nothing Choice (members_from (d + 1) (take (length s - particle_size) (drop particle_size s))) → u ≡ member_nothing d s
+      absent_choice x y p = by sort x y by_sort
+        where
+          by : (n : ℕ) → (n ≡ 0 → ⊥) → (n ≡ 1 → ⊥)
+              → member_nothing d s ≡ sort_nothing (quantifier_of (get_or s particle_quantifier_at 0)) n (members_from (suc d) (drop particle_size s))
+              → u ≡ member_nothing d s
+          by zero x y r = absurd (x refl)
+          by (suc zero) x y r = absurd (y refl)
+          by (suc (suc n)) x y r = inside_told Choice p ∙ sym r
+
+-- ---- one particle, p, and its members
+module _ (d : ℕ) (s : Bytes) (p : Particle) (e : p ≡ particle_of (read_particle s)) where
+  told : member_filling d s ≡ what_filling p.quantifier p.what (members_from (suc d) (drop particle_size s))
+  unfolding member_filling
+  told = ap (λ (z : Particle). what_filling z.quantifier z.what (members_from (suc d) (drop particle_size s))) (sym e)
+
+  module _ (b : Bool) (q : b ≡ skips p.quantifier) where
+    pub member_skips : b ≡ true → member_filling d s ≡ []
+    member_skips t = told ∙ by p.what
       where
-        u : Bytes
-        u = drop least.at s
+        z : skips p.quantifier ≡ true
+        z = sym q ∙ t
 
-        by : (f : Bool) → ltb (length u) particle_size ≡ f → filled_from (rows_lent ks) d u ≡ part_filling (rows_lent ks) Choice (members_from d u)
-        by true q = filling_few (rows_lent ks) d u (ltb-true (length u) particle_size q) ∙ sym (part_few (rows_lent ks) d Choice u (ltb-true (length u) particle_size q))
-        by false q =
-            let l : particle_size ≤ length u = ltb-false (length u) particle_size q in
-            let here : get_or u particle_depth_at 0 ≡ d = c.here (omega (arith, l, length-drop least.at s)) in
-            filling_there (rows_lent ks) d u l ∙ sym (part_here (rows_lent ks) d Choice u (get_or u particle_depth_at 0) l refl (omega (arith, here)) (omega (arith, here)))
+        by : (w : What) → what_filling p.quantifier w (members_from (suc d) (drop particle_size s)) ≡ []
+        by (Element i) = rw z
+        by (Group k n) = rw z
 
-    pub chosen_member : {least : Least} → b ≡ false → Chosen ks d s least → GroupPart ks Choice d s (take (length s - least.at) (drop least.at s))
-    chosen_member {least} q c =
-        let long : length (take (length s - least.at) (drop least.at s)) ≡ length s - least.at = ap length (tail_seen s least.at) ∙ length-drop least.at s in
-        record {
-          filled = choice_told ∙ ap (λ (z : Bool). unless z (filling (rows_lent ks) Choice (members_from d s))) q ∙ c.filled ∙ from_member c
-              ∙ ap (λ (z : Bytes). part_filling (rows_lent ks) Choice (members_from d z)) (sym (tail_seen s least.at));
-          short = omega (arith, long);
-        }
+    module _ (f : b ≡ false) where
+      pub member_element : (i : ℕ) → p.what ≡ Element i → member_filling d s ≡ i ∷ []
+      member_element i w = let z : skips p.quantifier ≡ false = sym q ∙ f in told ∙ rw (w, z)
+
+      module _ (k : GroupKind) (n : ℕ) (w : p.what ≡ Group k n) (t : Bytes) (et : t ≡ take (length s - particle_size) (drop particle_size s)) where
+        at_tail : members_from (d + 1) t ≡ members_from (suc d) (drop particle_size s)
+        at_tail = ap₂ (λ (x : ℕ) (y : Bytes). members_from x y) (add-one d) (et ∙ tail_seen s particle_size)
+
+        inside : member_filling d s ≡ group_filled k (members_from (d + 1) t)
+        unfolding group_filled
+        inside =
+            let z : skips p.quantifier ≡ false = sym q ∙ f in
+            told ∙ rw (w, z, ← at_tail)
+
+        -- its members fill with nothing
+        pub member_empty : filling k (members_from (d + 1) t) ≡ [] → member_filling d s ≡ []
+        unfolding group_filled
+        member_empty h = inside ∙ unless_none (nothing k (members_from (d + 1) t)) (filling k (members_from (d + 1) t)) h
+
+        -- u: it fills with nothing, whatever its members do
+        module _ (u : Bool) (eu : group_filled k (members_from (d + 1) t) ≡ unless u (filling k (members_from (d + 1) t))) where
+          pub member_nothing_lem : u ≡ true → member_filling d s ≡ []
+          member_nothing_lem h = inside ∙ eu ∙ rw h
+
+          pub member_group : u ≡ false → member_filling d s ≡ filling k (members_from (d + 1) t)
+          member_group h = inside ∙ eu ∙ rw h
 
 -- ---- definitions
 -- the attributes of a form do not depend on its definitions
@@ -261,56 +396,55 @@ unfolding fillings_of
 form_fillings version w n m a defs parts attrs value f g e [] = refl
 form_fillings version w n m a defs parts attrs value f g e (i ∷ is) = ap₂ (λ (u v : List (Deep FlatRow)). u ++ v) (e i) (form_fillings version w n m a defs parts attrs value f g e is)
 
-form_content : (version w n m a : ℕ) (defs parts attrs : Bytes) (value : ℕ → Bytes) (rows : List ℕ → ℕ) (f g : ℕ → List (Deep FlatRow)) → ((j : ℕ) → f j ≡ g j)
-    → (txt : Bytes) (d : ℕ) (ms : Members ℕ) (k : ℕ)
-    → content_rows (index_form version w n defs parts attrs a) value rows f txt d ms k ≡ content_rows (index_form version w m defs parts attrs a) value rows g txt d ms k
+form_content : (version w n m a : ℕ) (defs parts attrs : Bytes) (value : ℕ → Bytes) (f g : ℕ → List (Deep FlatRow)) → ((j : ℕ) → f j ≡ g j) → (txt : Bytes) (d : ℕ) (ms : Members ℕ) (k : ℕ)
+    → content_rows (index_form version w n defs parts attrs a) value f txt d ms k ≡ content_rows (index_form version w m defs parts attrs a) value g txt d ms k
 unfolding content_rows
-form_content version w n m a defs parts attrs value rows f g e txt d ms zero = refl
-form_content version w n m a defs parts attrs value rows f g e txt d ms (suc zero) = refl
-form_content version w n m a defs parts attrs value rows f g e txt d ms (suc (suc k)) = form_fillings version w n m a defs parts attrs value f g e (filling rows Sequence ms)
+form_content version w n m a defs parts attrs value f g e txt d ms zero = refl
+form_content version w n m a defs parts attrs value f g e txt d ms (suc zero) = refl
+form_content version w n m a defs parts attrs value f g e txt d ms (suc (suc k)) = form_fillings version w n m a defs parts attrs value f g e (filling Sequence ms)
 
-module _ (version w : ℕ) (defs parts attrs : Bytes) (a : ℕ) (rows : List ℕ → ℕ) (txt : Bytes) where
+module _ (version w : ℕ) (defs parts attrs : Bytes) (a : ℕ) (txt : Bytes) where
   -- how many definitions there are is not looked at
-  sized : (n h d i : ℕ) → fill_index (index_form version w n defs parts attrs a) (value_in w attrs) rows h txt d i ≡ fill_index (index_form version w 0 defs parts attrs a) (value_in w attrs) rows h txt d i
+  sized : (n h d i : ℕ) → fill_index (index_form version w n defs parts attrs a) (value_in w attrs) h txt d i ≡ fill_index (index_form version w 0 defs parts attrs a) (value_in w attrs) h txt d i
   unfolding fill_index
   sized n zero d i = refl
   sized n (suc h) d i =
       ap₂ (λ (u v : List (Deep FlatRow)). new_element d i ∷ (u ++ v))
       (form_required version w n a 0 defs parts attrs (value_in w attrs) (suc d) i 0 a
       ∙ sym (form_required version w 0 a 0 defs parts attrs (value_in w attrs) (suc d) i 0 a))
-      (form_content version w n 0 a defs parts attrs (value_in w attrs) rows
-      (λ j. fill_index (index_form version w n defs parts attrs a) (value_in w attrs) rows h txt (suc d) j)
-      (λ j. fill_index (index_form version w 0 defs parts attrs a) (value_in w attrs) rows h txt (suc d) j) (λ j. sized n h (suc d) j) txt (suc d)
+      (form_content version w n 0 a defs parts attrs (value_in w attrs)
+      (λ j. fill_index (index_form version w n defs parts attrs a) (value_in w attrs) h txt (suc d) j)
+      (λ j. fill_index (index_form version w 0 defs parts attrs a) (value_in w attrs) h txt (suc d) j) (λ j. sized n h (suc d) j) txt (suc d)
       (all_members (model_part defs parts i)) (definition_in defs i).kind)
 
-  pub definition_sized : (n d i : ℕ) {c r : Cursor} {out out' : Bytes} → Written w (definition_rows version w defs parts attrs a rows txt n d i) c out r out'
-      → Written w (fill_index (index_form version w n defs parts attrs a) (value_in w attrs) rows n txt d i) c out r out'
+  pub definition_sized : (n d i : ℕ) {c r : Cursor} {out out' : Bytes} → Written w (definition_rows version w defs parts attrs a txt n d i) c out r out'
+      → Written w (fill_index (index_form version w n defs parts attrs a) (value_in w attrs) n txt d i) c out r out'
   unfolding definition_rows
   definition_sized n d i p = written_as (sized n n d i) p
 
   module _ (h d : ℕ) where
     definition_more : (i : ℕ)
-        → definition_rows version w defs parts attrs a rows txt (suc h) d i
-        ≡ new_element d i ∷ (required_in version w attrs (suc d) i a ++ below_rows version w defs parts attrs a rows txt h (suc d) i)
+        → definition_rows version w defs parts attrs a txt (suc h) d i
+        ≡ new_element d i ∷ (required_in version w attrs (suc d) i a ++ below_rows version w defs parts attrs a txt h (suc d) i)
     unfolding definition_rows below_rows required_in fill_index
     definition_more i =
-        ap (λ (u : List (Deep FlatRow)). new_element d i ∷ (u ++ below_rows version w defs parts attrs a rows txt h (suc d) i))
+        ap (λ (u : List (Deep FlatRow)). new_element d i ∷ (u ++ below_rows version w defs parts attrs a txt h (suc d) i))
         (form_required version w 0 a 0 defs parts attrs (value_in w attrs) (suc d) i 0 a)
 
   module _ (h d : ℕ) where
     -- ---- a definition
-    pub definition_low : (i : ℕ) {c : Cursor} {out : Bytes} → h ≡ 0 → Written w (definition_rows version w defs parts attrs a rows txt h d i) c out c out
+    pub definition_low : (i : ℕ) {c : Cursor} {out : Bytes} → h ≡ 0 → Written w (definition_rows version w defs parts attrs a txt h d i) c out c out
     unfolding definition_rows fill_index
     definition_low i e = rw e written_none
 
     pub definition_written : (i : ℕ) {c e r r' : Cursor} {out out₁ out₂ out' : Bytes} → (h ≡ 0 → ⊥) → Written w (new_row 1 d i [] ∷ []) c out e out₁
         → Written w (required_in version w attrs (d + 1) i a) e out₁ r out₂
-        → Written w (below_rows version w defs parts attrs a rows txt (h - 1) (d + 1) i) r out₂ r' out' → Written w (definition_rows version w defs parts attrs a rows txt h d i) c out r' out'
+        → Written w (below_rows version w defs parts attrs a txt (h - 1) (d + 1) i) r out₂ r' out' → Written w (definition_rows version w defs parts attrs a txt h d i) c out r' out'
     definition_written i {c} {e} {r} {r'} {out} {out₁} {out₂} {out'} n p q s = written_as (by h n) (written_then p (written_then q s))
       where
         by : (k : ℕ) → (k ≡ 0 → ⊥)
-            → definition_rows version w defs parts attrs a rows txt k d i
-            ≡ new_element d i ∷ (required_in version w attrs (d + 1) i a ++ below_rows version w defs parts attrs a rows txt (k - 1) (d + 1) i)
+            → definition_rows version w defs parts attrs a txt k d i
+            ≡ new_element d i ∷ (required_in version w attrs (d + 1) i a ++ below_rows version w defs parts attrs a txt (k - 1) (d + 1) i)
         by zero x = absurd (x refl)
         by (suc k) x =
             let m : suc k - 1 ≡ k = omega arith in
@@ -318,106 +452,100 @@ module _ (version w : ℕ) (defs parts attrs : Bytes) (a : ℕ) (rows : List ℕ
 
     -- ---- what stands below an element of definition i, whose kind is k
     module _ (i k : ℕ) (e : k ≡ (definition_in defs i).kind) where
-      kind_told : below_rows version w defs parts attrs a rows txt h d i
-          ≡ content_rows (index_form_in version w defs parts attrs a) (value_in w attrs) rows (λ j. definition_rows version w defs parts attrs a rows txt h d j) txt d
+      kind_told : below_rows version w defs parts attrs a txt h d i
+          ≡ content_rows (index_form_in version w defs parts attrs a) (value_in w attrs) (λ j. definition_rows version w defs parts attrs a txt h d j) txt d
           (all_members (model_part defs parts i)) k
       unfolding below_rows
       kind_told = ap
-          (λ (z : ℕ). content_rows (index_form_in version w defs parts attrs a) (value_in w attrs) rows (λ j. definition_rows version w defs parts attrs a rows txt h d j) txt
+          (λ (z : ℕ). content_rows (index_form_in version w defs parts attrs a) (value_in w attrs) (λ j. definition_rows version w defs parts attrs a txt h d j) txt
           d (all_members (model_part defs parts i)) z)
           (sym e)
 
-      pub below_none : {c : Cursor} {out : Bytes} → k ≡ 0 → Written w (below_rows version w defs parts attrs a rows txt h d i) c out c out
+      pub below_none : {c : Cursor} {out : Bytes} → k ≡ 0 → Written w (below_rows version w defs parts attrs a txt h d i) c out c out
       unfolding content_rows
       below_none z = written_as (kind_told ∙ rw z) written_none
 
-      pub below_text : {c r : Cursor} {out out' : Bytes} → k ≡ 1 → Written w (new_row 3 d 0 txt ∷ []) c out r out' → Written w (below_rows version w defs parts attrs a rows txt h d i) c out r out'
+      pub below_text : {c r : Cursor} {out out' : Bytes} → k ≡ 1 → Written w (new_row 3 d 0 txt ∷ []) c out r out' → Written w (below_rows version w defs parts attrs a txt h d i) c out r out'
       unfolding content_rows
       below_text z p = written_as (kind_told ∙ rw z) p
 
       pub below_group : (s : Bytes) {c r : Cursor} {out out' : Bytes} → (k ≡ 0 → ⊥) → (k ≡ 1 → ⊥) → s ≡ model_part defs parts i
-          → Written w (member_rows version w defs parts attrs a rows txt h d (part_filling rows Sequence (members_from 0 s))) c out r out'
-          → Written w (below_rows version w defs parts attrs a rows txt h d i) c out r out'
+          → Written w (member_rows version w defs parts attrs a txt h d (filling Sequence (members_from 0 s))) c out r out'
+          → Written w (below_rows version w defs parts attrs a txt h d i) c out r out'
       unfolding content_rows member_rows
-      below_group s n m q p =
-          written_as
-          (kind_told ∙ by k n m ∙ ap (λ (z : Bytes). member_rows version w defs parts attrs a rows txt h d (filling rows Sequence (members_from 0 z))) (sym q)
-          ∙ ap (λ (z : List ℕ). member_rows version w defs parts attrs a rows txt h d z) (sym (part_list rows (members_from 0 s))))
-          p
+      below_group s n m q p = written_as (kind_told ∙ by k n m ∙ ap (λ (z : Bytes). member_rows version w defs parts attrs a txt h d (filling Sequence (members_from 0 z))) (sym q)) p
         where
           by : (k : ℕ) → (k ≡ 0 → ⊥) → (k ≡ 1 → ⊥)
-              → content_rows (index_form_in version w defs parts attrs a) (value_in w attrs) rows (λ j. definition_rows version w defs parts attrs a rows txt h d j) txt d
-              (all_members (model_part defs parts i)) k
-              ≡ member_rows version w defs parts attrs a rows txt h d (filling rows Sequence (members_from 0 (model_part defs parts i)))
+              → content_rows (index_form_in version w defs parts attrs a) (value_in w attrs) (λ j. definition_rows version w defs parts attrs a txt h d j) txt d (all_members (model_part defs parts i)) k
+              ≡ member_rows version w defs parts attrs a txt h d (filling Sequence (members_from 0 (model_part defs parts i)))
           by zero n m = absurd (n refl)
           by (suc zero) n m = absurd (m refl)
           by (suc (suc k)) n m = refl
 
-      pub below_nothing : (s : Bytes) {c : Cursor} {out : Bytes} → (k ≡ 0 → ⊥) → (k ≡ 1 → ⊥) → s ≡ model_part defs parts i → filling rows Sequence (members_from 0 s) ≡ []
-          → Written w (below_rows version w defs parts attrs a rows txt h d i) c out c out
+      pub below_nothing : (s : Bytes) {c : Cursor} {out : Bytes} → (k ≡ 0 → ⊥) → (k ≡ 1 → ⊥) → s ≡ model_part defs parts i → filling Sequence (members_from 0 s) ≡ []
+          → Written w (below_rows version w defs parts attrs a txt h d i) c out c out
       unfolding member_rows fillings_of
       below_nothing s n m q z =
-          below_group s n m q (written_as (ap (λ (f : List ℕ). member_rows version w defs parts attrs a rows txt h d f) (part_list rows (members_from 0 s) ∙ z)) written_none)
+          below_group s n m q (written_as (ap (λ (f : List ℕ). member_rows version w defs parts attrs a txt h d f) z) written_none)
 
     -- ---- members; f: the definitions that they fill with
-    members_more : (u v : List ℕ) → member_rows version w defs parts attrs a rows txt h d (u ++ v)
-        ≡ member_rows version w defs parts attrs a rows txt h d u ++ member_rows version w defs parts attrs a rows txt h d v
+    members_more : (u v : List ℕ) → member_rows version w defs parts attrs a txt h d (u ++ v) ≡ member_rows version w defs parts attrs a txt h d u ++ member_rows version w defs parts attrs a txt h d v
     unfolding member_rows fillings_of
     members_more [] v = refl
     members_more (i ∷ u) v =
-        ap (λ (z : List (Deep FlatRow)). definition_rows version w defs parts attrs a rows txt h d i ++ z) (members_more u v)
-        ∙ sym (append_assoc (definition_rows version w defs parts attrs a rows txt h d i) (member_rows version w defs parts attrs a rows txt h d u)
-        (member_rows version w defs parts attrs a rows txt h d v))
+        ap (λ (z : List (Deep FlatRow)). definition_rows version w defs parts attrs a txt h d i ++ z) (members_more u v)
+        ∙ sym (append_assoc (definition_rows version w defs parts attrs a txt h d i) (member_rows version w defs parts attrs a txt h d u) (member_rows version w defs parts attrs a txt h d v))
 
     module _ (f : List ℕ) where
-      pub none_written : {c : Cursor} {out : Bytes} → f ≡ [] → Written w (member_rows version w defs parts attrs a rows txt h d f) c out c out
+      pub none_written : {c : Cursor} {out : Bytes} → f ≡ [] → Written w (member_rows version w defs parts attrs a txt h d f) c out c out
       unfolding member_rows fillings_of
       none_written e = rw e written_none
 
-      pub one_written : (i : ℕ) {c r : Cursor} {out out' : Bytes} → f ≡ i ∷ [] → Written w (definition_rows version w defs parts attrs a rows txt h d i) c out r out'
-          → Written w (member_rows version w defs parts attrs a rows txt h d f) c out r out'
+      pub one_written : (i : ℕ) {c r : Cursor} {out out' : Bytes} → f ≡ i ∷ [] → Written w (definition_rows version w defs parts attrs a txt h d i) c out r out'
+          → Written w (member_rows version w defs parts attrs a txt h d f) c out r out'
       unfolding member_rows fillings_of
-      one_written i e p = written_as (ap (λ (z : List ℕ). member_rows version w defs parts attrs a rows txt h d z) e ∙ append-nil (definition_rows version w defs parts attrs a rows txt h d i)) p
+      one_written i e p = written_as (ap (λ (z : List ℕ). member_rows version w defs parts attrs a txt h d z) e ∙ append-nil (definition_rows version w defs parts attrs a txt h d i)) p
 
-      pub same_written : (g : List ℕ) {c r : Cursor} {out out' : Bytes} → f ≡ g → Written w (member_rows version w defs parts attrs a rows txt h d g) c out r out'
-          → Written w (member_rows version w defs parts attrs a rows txt h d f) c out r out'
-      same_written g e p = written_as (ap (λ (z : List ℕ). member_rows version w defs parts attrs a rows txt h d z) e) p
+      pub same_written : (g : List ℕ) {c r : Cursor} {out out' : Bytes} → f ≡ g → Written w (member_rows version w defs parts attrs a txt h d g) c out r out'
+          → Written w (member_rows version w defs parts attrs a txt h d f) c out r out'
+      same_written g e p = written_as (ap (λ (z : List ℕ). member_rows version w defs parts attrs a txt h d z) e) p
 
       -- of a group's first member, u, and of the others, v
-      module _ (k : GroupKind) (u v : List ℕ) (e : f ≡ first_or_all k u v) where
-        pub list_written : {c r r' : Cursor} {out out' out'' : Bytes} → k ≡ Sequence → Written w (member_rows version w defs parts attrs a rows txt h d u) c out r out' → Written w (member_rows version w defs parts attrs a rows txt h d v) r out' r' out''
-            → Written w (member_rows version w defs parts attrs a rows txt h d f) c out r' out''
-        list_written q p s = written_as (ap (λ (z : List ℕ). member_rows version w defs parts attrs a rows txt h d z) (e ∙ ap (λ (z : GroupKind). first_or_all z u v) q) ∙ members_more u v) (written_then p s)
+      module _ (k : GroupKind) (u v : List ℕ) (e : f ≡ beside k u v) where
+        pub list_written : {c r r' : Cursor} {out out' out'' : Bytes} → k ≡ Sequence → Written w (member_rows version w defs parts attrs a txt h d u) c out r out'
+            → Written w (member_rows version w defs parts attrs a txt h d v) r out' r' out''
+            → Written w (member_rows version w defs parts attrs a txt h d f) c out r' out''
+        list_written q p s = written_as (ap (λ (z : List ℕ). member_rows version w defs parts attrs a txt h d z) (e ∙ ap (λ (z : GroupKind). beside z u v) q) ∙ members_more u v) (written_then p s)
 
-        pub first_written : {c r : Cursor} {out out' : Bytes} → k ≡ Choice → Written w (member_rows version w defs parts attrs a rows txt h d u) c out r out' → Written w (member_rows version w defs parts attrs a rows txt h d f) c out r out'
-        first_written q p = same_written u (e ∙ ap (λ (z : GroupKind). first_or_all z u v) q) p
+        pub first_written : {c r : Cursor} {out out' : Bytes} → k ≡ Choice → Written w (member_rows version w defs parts attrs a txt h d u) c out r out'
+            → Written w (member_rows version w defs parts attrs a txt h d f) c out r out'
+        first_written q p = same_written u (e ∙ ap (λ (z : GroupKind). beside z u v) q) p
 
 -- ---- the members of a group, one after the other
 -- the members of depth e from t on are still to be written; once they are, all from s on are
-pub record Rest (version w : ℕ) (defs parts attrs : Bytes) (a : ℕ) (rows : List ℕ → ℕ) (txt : Bytes) (h d : ℕ) (k : GroupKind) (e : ℕ) (s : Bytes) (c : Cursor) (out t : Bytes) (r : Cursor)
-    (out' : Bytes) : Type 0 where
-  pub rest : {r' : Cursor} {out'' : Bytes} → Written w (member_rows version w defs parts attrs a rows txt h d (part_filling rows k (members_from e t))) r out' r' out''
-      → Written w (member_rows version w defs parts attrs a rows txt h d (part_filling rows k (members_from e s))) c out r' out''
+pub record Rest (version w : ℕ) (defs parts attrs : Bytes) (a : ℕ) (txt : Bytes) (h d : ℕ) (k : GroupKind) (e : ℕ) (s : Bytes) (c : Cursor) (out t : Bytes) (r : Cursor) (out' : Bytes) : Type 0 where
+  pub rest : {r' : Cursor} {out'' : Bytes} → Written w (member_rows version w defs parts attrs a txt h d (filling k (members_from e t))) r out' r' out''
+      → Written w (member_rows version w defs parts attrs a txt h d (filling k (members_from e s))) c out r' out''
   pub room : Room w r
   pub short : length t ≤ length s
   pub long : length out' ≡ length out
 
-module _ {version w : ℕ} {defs parts attrs : Bytes} {a : ℕ} {rows : List ℕ → ℕ} {txt : Bytes} {h d : ℕ} {k : GroupKind} {e : ℕ} {s : Bytes} {c : Cursor} {out : Bytes} where
-  pub rest_starts : Room w c → Rest version w defs parts attrs a rows txt h d k e s c out s c out
+module _ {version w : ℕ} {defs parts attrs : Bytes} {a : ℕ} {txt : Bytes} {h d : ℕ} {k : GroupKind} {e : ℕ} {s : Bytes} {c : Cursor} {out : Bytes} where
+  pub rest_starts : Room w c → Rest version w defs parts attrs a txt h d k e s c out s c out
   rest_starts m = record { rest = λ p. p; room = m; short = omega arith; long = refl }
 
   -- after the particle that t begins with, whose depth is own
-  module _ {t : Bytes} {r : Cursor} {out' : Bytes} (i : Rest version w defs parts attrs a rows txt h d k e s c out t r out') (l : particle_size ≤ length t) (own : ℕ)
+  module _ {t : Bytes} {r : Cursor} {out' : Bytes} (i : Rest version w defs parts attrs a txt h d k e s c out t r out') (l : particle_size ≤ length t) (own : ℕ)
       (g : own ≡ get_or t particle_depth_at 0) where
     next_short : length (take (length t - particle_size) (drop particle_size t)) ≤ length s
     next_short = omega (arith, i.short, length-take (length t - particle_size) (drop particle_size t), length-drop particle_size t)
 
     -- it is deeper, so it belongs to another member, or it is a member of a LIST that may be left out
     module _ (b : Bool) (o : b ≡ passed e k own (quantifier_of (get_or t particle_quantifier_at 0))) where
-      pub rest_past : e ≤ own → b ≡ true → Rest version w defs parts attrs a rows txt h d k e s c out (take (length t - particle_size) (drop particle_size t)) r out'
+      pub rest_past : e ≤ own → b ≡ true → Rest version w defs parts attrs a txt h d k e s c out (take (length t - particle_size) (drop particle_size t)) r out'
       rest_past m y =
           record {
-            rest = λ p. i.rest (same_written version w defs parts attrs a rows txt h d (part_filling rows k (members_from e t)) _ (part_past rows e k t own l g m (sym o ∙ y)) p);
+            rest = λ p. i.rest (same_written version w defs parts attrs a txt h d (filling k (members_from e t)) _ (group_past e k t own l g m (sym o ∙ y)) p);
             room = i.room;
             short = next_short;
             long = i.long;
@@ -426,34 +554,34 @@ module _ {version w : ℕ} {defs parts attrs : Bytes} {a : ℕ} {rows : List ℕ
       pub rest_here : b ≡ false → own ≤ e
       rest_here z = not_passed e k own (quantifier_of (get_or t particle_quantifier_at 0)) (sym o ∙ z)
 
-    module _ (m : own ≤ e) (n : e ≤ own) {r' : Cursor} {out'' : Bytes} (p : Written w (member_rows version w defs parts attrs a rows txt h d (member_filling rows e t)) r out' r' out'') where
+    module _ (m : own ≤ e) (n : e ≤ own) {r' : Cursor} {out'' : Bytes} (p : Written w (member_rows version w defs parts attrs a txt h d (member_filling e t)) r out' r' out'') where
       -- it is a member of a LIST, and was written
-      pub rest_on : k ≡ Sequence → Rest version w defs parts attrs a rows txt h d k e s c out (take (length t - particle_size) (drop particle_size t)) r' out''
+      pub rest_on : k ≡ Sequence → Rest version w defs parts attrs a txt h d k e s c out (take (length t - particle_size) (drop particle_size t)) r' out''
       rest_on q =
           record {
             rest = λ x. i.rest
-                (list_written version w defs parts attrs a rows txt h d (part_filling rows k (members_from e t)) k (member_filling rows e t)
-                (part_filling rows k (members_from e (take (length t - particle_size) (drop particle_size t)))) (part_here rows e k t own l g m n) q p x);
+                (list_written version w defs parts attrs a txt h d (filling k (members_from e t)) k (member_filling e t)
+                (filling k (members_from e (take (length t - particle_size) (drop particle_size t)))) (group_here_lem e k t own l g m n) q p x);
             room = written_room p i.room;
             short = next_short;
             long = written_long p ∙ i.long;
           }
 
-      -- it is the member that a CHOICE fills with
-      pub rest_first : k ≡ Choice → Written w (member_rows version w defs parts attrs a rows txt h d (part_filling rows k (members_from e s))) c out r' out''
+      -- it is the first member of a CHOICE
+      pub rest_first : k ≡ Choice → Written w (member_rows version w defs parts attrs a txt h d (filling k (members_from e s))) c out r' out''
       rest_first q =
           i.rest
-          (first_written version w defs parts attrs a rows txt h d (part_filling rows k (members_from e t)) k (member_filling rows e t)
-          (part_filling rows k (members_from e (take (length t - particle_size) (drop particle_size t)))) (part_here rows e k t own l g m n) q p)
+          (first_written version w defs parts attrs a txt h d (filling k (members_from e t)) k (member_filling e t)
+          (filling k (members_from e (take (length t - particle_size) (drop particle_size t)))) (group_here_lem e k t own l g m n) q p)
 
     -- it stands outside the group
-    pub rest_over : own < e → Written w (member_rows version w defs parts attrs a rows txt h d (part_filling rows k (members_from e s))) c out r out'
-    rest_over m = i.rest (none_written version w defs parts attrs a rows txt h d (part_filling rows k (members_from e t)) (part_stop rows e k t own l g m))
+    pub rest_over : own < e → Written w (member_rows version w defs parts attrs a txt h d (filling k (members_from e s))) c out r out'
+    rest_over m = i.rest (none_written version w defs parts attrs a txt h d (filling k (members_from e t)) (group_stop e k t own l g m))
 
   -- there is no particle more
-  pub rest_ends : {t : Bytes} {r : Cursor} {out' : Bytes} → Rest version w defs parts attrs a rows txt h d k e s c out t r out' → length t < particle_size
-      → Written w (member_rows version w defs parts attrs a rows txt h d (part_filling rows k (members_from e s))) c out r out'
-  rest_ends {t} i l = i.rest (none_written version w defs parts attrs a rows txt h d (part_filling rows k (members_from e t)) (part_few rows e k t l))
+  pub rest_ends : {t : Bytes} {r : Cursor} {out' : Bytes} → Rest version w defs parts attrs a txt h d k e s c out t r out' → length t < particle_size
+      → Written w (member_rows version w defs parts attrs a txt h d (filling k (members_from e s))) c out r out'
+  rest_ends {t} i l = i.rest (none_written version w defs parts attrs a txt h d (filling k (members_from e t)) (group_few e k t l))
 
 -- ---- an index in a particle is a byte
 abbrev element_in : What → ℕ
@@ -496,37 +624,73 @@ part_short defs parts i s e =
     omega (arith, ap length e, length-take n (drop m parts), length-drop m parts)
 
 -- ---- what a change fills with
-module _ (version w n : ℕ) (defs parts attrs : Bytes) (a : ℕ) (rows : List ℕ → ℕ) (what : Filling) (txt : Bytes) (d : ℕ) where
+module _ (version w n : ℕ) (defs parts attrs : Bytes) (a : ℕ) (what : Filling) (txt : Bytes) (d : ℕ) where
   abbrev rows_for : Filling → List (Deep FlatRow)
-  rows_for x = filling_rows (index_form version w n defs parts attrs a) (value_in w attrs) rows (λ k e. members_read_at parts k e) x txt d
+  rows_for x = filling_rows (index_form version w n defs parts attrs a) (value_in w attrs) (λ k e. members_read_at parts k e) x txt d
 
   pub nothing_filled : {c : Cursor} {out : Bytes} → what ≡ Nothing → Written w (rows_for what) c out c out
   nothing_filled e = written_as (ap (λ (x : Filling). rows_for x) e) written_none
 
   pub definition_filled_lem : (i : ℕ) {c r : Cursor} {out out' : Bytes} → what ≡ Definition i
-      → Written w (definition_rows version w defs parts attrs a rows txt n d i) c out r out' → Written w (rows_for what) c out r out'
-  definition_filled_lem i e p = written_as (ap (λ (x : Filling). rows_for x) e) (definition_sized version w defs parts attrs a rows txt n d i p)
+      → Written w (definition_rows version w defs parts attrs a txt n d i) c out r out' → Written w (rows_for what) c out r out'
+  definition_filled_lem i e p = written_as (ap (λ (x : Filling). rows_for x) e) (definition_sized version w defs parts attrs a txt n d i p)
 
   pub attribute_filled : (j : ℕ) {c r : Cursor} {out out' : Bytes} → what ≡ Attribute j → Written w (new_row 2 d j txt ∷ []) c out r out' → Written w (rows_for what) c out r out'
   attribute_filled j e p = written_as (ap (λ (x : Filling). rows_for x) e) p
 
   pub particles_filled : (g : GroupKind) (k e : ℕ) {c r : Cursor} {out out' : Bytes} → what ≡ Particles g k e
-      → Written w (member_rows version w defs parts attrs a rows txt n d (group_filled rows g (members_read_at parts k e))) c out r out'
+      → Written w (member_rows version w defs parts attrs a txt n d (group_filled g (members_read_at parts k e))) c out r out'
       → Written w (rows_for what) c out r out'
   unfolding member_rows definition_rows
   particles_filled g k e q p =
       written_as
       (ap (λ (x : Filling). rows_for x) q
-      ∙ form_fillings version w n 0 a defs parts attrs (value_in w attrs) (λ i. fill_index (index_form version w n defs parts attrs a) (value_in w attrs) rows n txt d i)
-      (λ i. fill_index (index_form version w 0 defs parts attrs a) (value_in w attrs) rows n txt d i) (λ i. sized version w defs parts attrs a rows txt n n d i)
-      (group_filled rows g (members_read_at parts k e)))
+      ∙ form_fillings version w n 0 a defs parts attrs (value_in w attrs) (λ i. fill_index (index_form version w n defs parts attrs a) (value_in w attrs) n txt d i)
+      (λ i. fill_index (index_form version w 0 defs parts attrs a) (value_in w attrs) n txt d i) (λ i. sized version w defs parts attrs a txt n n d i)
+      (group_filled g (members_read_at parts k e)))
       p
 
--- the group of the particles s, from number k on
-pub read_there : (rows : List ℕ → ℕ) (parts s : Bytes) (k e : ℕ) (g : GroupKind) → s ≡ drop (particle_size * k) parts
-    → group_filled rows g (members_read_at parts k e) ≡ group_filled rows g (members_from e s)
-unfolding members_read_at
-read_there rows parts s k e g t = ap (λ (u : Bytes). group_filled rows g (members_from e u)) (sym t)
+-- ---- a group's filling, where its quantifier needs it
+unless_both : (b r : Bool) (u v : List ℕ) → (b && r) ≡ true → (r ≡ true → v ≡ []) → unless b u ++ v ≡ []
+unless_both true r u v e f = f e
+unless_both false r u v e f = absurd (false≢true e)
+
+-- a LIST that accepts nothing fills with nothing
+list_nothing : (ms : Members ℕ) → nothing Sequence ms ≡ true → filling Sequence ms ≡ []
+unfolding nothing filling
+list_nothing done e = refl
+list_nothing (el q n rest) e = unless_both (skips q) (nothing Sequence rest) (n ∷ []) (filling Sequence rest) e (λ r. list_nothing rest r)
+list_nothing (group q j ms rest) e = unless_both (skips q || nothing j ms) (nothing Sequence rest) (filling j ms) (filling Sequence rest) e (λ r. list_nothing rest r)
+
+list_filled : (ms : Members ℕ) → group_filled Sequence ms ≡ filling Sequence ms
+unfolding group_filled
+list_filled ms = by (nothing Sequence ms) refl
+  where
+    by : (b : Bool) → nothing Sequence ms ≡ b → unless b (filling Sequence ms) ≡ filling Sequence ms
+    by true e = sym (list_nothing ms e)
+    by false e = refl
+
+module _ (k : GroupKind) (ms : Members ℕ) where
+  pub filled_list : k ≡ Sequence → group_filled k ms ≡ unless false (filling k ms)
+  filled_list e = subst (λ (z : GroupKind). group_filled z ms ≡ filling z ms) (sym e) (list_filled ms)
+
+  pub filled_choice : {b : Bool} → k ≡ Choice → b ≡ nothing Choice ms → group_filled k ms ≡ unless b (filling k ms)
+  unfolding group_filled
+  filled_choice {b} e t =
+      let told : nothing k ms ≡ b = ap (λ (z : GroupKind). nothing z ms) e ∙ sym t in
+      ap (λ (z : Bool). unless z (filling k ms)) told
+
+-- s: the particles from number k on; b: whether the group fills with nothing
+module _ (parts s : Bytes) (k e : ℕ) (t : s ≡ drop (particle_size * k) parts) (g : GroupKind) (b : Bool) (told : group_filled g (members_from e s) ≡ unless b (filling g (members_from e s))) where
+  here : group_filled g (members_read_at parts k e) ≡ unless b (filling g (members_from e s))
+  unfolding members_read_at
+  here = ap (λ (u : Bytes). group_filled g (members_from e u)) (sym t) ∙ told
+
+  pub group_empty : b ≡ true → group_filled g (members_read_at parts k e) ≡ []
+  group_empty q = here ∙ ap (λ (z : Bool). unless z (filling g (members_from e s))) q
+
+  pub group_full : b ≡ false → group_filled g (members_read_at parts k e) ≡ filling g (members_from e s)
+  group_full q = here ∙ ap (λ (z : Bool). unless z (filling g (members_from e s))) q
 
 pub filled_particles : (what : Filling) (g : GroupKind) (k e : ℕ) → what ≡ Particles g k e → Indexed what → (k ≤ 256) × (e ≤ 256)
 filled_particles what g k e q x = subst Indexed q x

@@ -1,3 +1,4 @@
 pub mod FillingLaws
 pub mod DepthLaws
 pub mod NewLaws
+pub mod NeededLaws

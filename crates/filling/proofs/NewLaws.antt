@@ -14,10 +14,9 @@ use Rattle.rules.specs.Layout.{FlatRow}
 use Rattle.form_index.specs.Indices.{IndexForm}
 use Rattle.row_writer.specs.Written.{new_in}
 use Rattle.row_writer.proofs.WrittenLaws.{new_append}
-use Rattle.least_member.specs.Particles.{group_filled}
 use Rattle.filling.specs.declared.Filling.{Filling}
 use Rattle.filling.specs.declared.Filling.TheVariants.{Nothing, Definition, Attribute, Particles}
-use Rattle.filling.specs.Fillings.{new_attribute_row, required_rows, fillings_of, content_rows, fill_index, filling_rows}
+use Rattle.filling.specs.Fillings.{new_attribute_row, group_filled, required_rows, fillings_of, content_rows, fill_index, filling_rows}
 
 abbrev pub New : List (Deep FlatRow) → Type 0
 New xs = new_in xs ≡ length xs
@@ -41,25 +40,23 @@ module _ (F : IndexForm) (value : ℕ → Bytes) where
   new_fillings f h [] = refl
   new_fillings f h (i ∷ is) = new_both (f i) (fillings_of F value f is) (h i) (new_fillings f h is)
 
-  -- `rows`: how many rows the fillings of some definitions have
-  module _ (rows : List ℕ → ℕ) where
-    new_content : (f : ℕ → List (Deep FlatRow)) → ((i : ℕ) → New (f i)) → (txt : Bytes) (d : ℕ) (ms : Members ℕ) (k : ℕ) → New (content_rows F value rows f txt d ms k)
-    unfolding content_rows
-    new_content f h txt d ms zero = refl
-    new_content f h txt d ms (suc zero) = refl
-    new_content f h txt d ms (suc (suc k)) = new_fillings f h (filling rows Sequence ms)
+  new_content : (f : ℕ → List (Deep FlatRow)) → ((i : ℕ) → New (f i)) → (txt : Bytes) (d : ℕ) (ms : Members ℕ) (k : ℕ) → New (content_rows F value f txt d ms k)
+  unfolding content_rows
+  new_content f h txt d ms zero = refl
+  new_content f h txt d ms (suc zero) = refl
+  new_content f h txt d ms (suc (suc k)) = new_fillings f h (filling Sequence ms)
 
-    new_index : (h : ℕ) (txt : Bytes) (d i : ℕ) → New (fill_index F value rows h txt d i)
-    unfolding fill_index
-    new_index zero txt d i = refl
-    new_index (suc h) txt d i =
-        let below : ℕ → List (Deep FlatRow) = λ j. fill_index F value rows h txt (suc d) j in
-        let required : List (Deep FlatRow) = required_rows F value (suc d) i 0 F.attributes in
-        let content : List (Deep FlatRow) = content_rows F value rows below txt (suc d) (F.model i) (F.kind i) in
-        omega (arith, new_both required content (new_required (suc d) i 0 F.attributes) (new_content below (λ j. new_index h txt (suc d) j) txt (suc d) (F.model i) (F.kind i)))
+  new_index : (h : ℕ) (txt : Bytes) (d i : ℕ) → New (fill_index F value h txt d i)
+  unfolding fill_index
+  new_index zero txt d i = refl
+  new_index (suc h) txt d i =
+      let below : ℕ → List (Deep FlatRow) = λ j. fill_index F value h txt (suc d) j in
+      let required : List (Deep FlatRow) = required_rows F value (suc d) i 0 F.attributes in
+      let content : List (Deep FlatRow) = content_rows F value below txt (suc d) (F.model i) (F.kind i) in
+      omega (arith, new_both required content (new_required (suc d) i 0 F.attributes) (new_content below (λ j. new_index h txt (suc d) j) txt (suc d) (F.model i) (F.kind i)))
 
-    pub new_filling : (at : ℕ → ℕ → Members ℕ) (what : Filling) (txt : Bytes) (d : ℕ) → New (filling_rows F value rows at what txt d)
-    new_filling at Nothing txt d = refl
-    new_filling at (Definition i) txt d = new_index F.size txt d i
-    new_filling at (Attribute j) txt d = refl
-    new_filling at (Particles g k n) txt d = new_fillings (λ i. fill_index F value rows F.size txt d i) (λ i. new_index F.size txt d i) (group_filled rows g (at k n))
+  pub new_filling : (at : ℕ → ℕ → Members ℕ) (what : Filling) (txt : Bytes) (d : ℕ) → New (filling_rows F value at what txt d)
+  new_filling at Nothing txt d = refl
+  new_filling at (Definition i) txt d = new_index F.size txt d i
+  new_filling at (Attribute j) txt d = refl
+  new_filling at (Particles g k n) txt d = new_fillings (λ i. fill_index F value F.size txt d i) (λ i. new_index F.size txt d i) (group_filled g (at k n))

@@ -296,19 +296,19 @@ module _ (room : ℕ) (c : Call) (s : Store) (g : good s ≡ true) (accepted : r
       spots_once p b.entries (distinct_untaken (left p b.entries) (subst (λ (z : List ℕ). Distinct z) (sym entries_left) once.once))
       (λ n i. from_one n (subst (λ (z : List ℕ). Memᴰ n z) entries_left (untaken_in n (left p b.entries) i)))
 
-  made_rows_lem : (u : ℕ) → Memᴰ u (spots_in (marks p b.entries)) → p.filling ≡ rows_made c s.version s.form
-  made_rows_lem u i = filling_made ls u c s.version s.form ((each_parent u).0 i)
+  made_rows : (u : ℕ) → Memᴰ u (spots_in (marks p b.entries)) → p.filling ≡ rows_made c s.version s.form
+  made_rows u i = filling_made ls u c s.version s.form ((each_parent u).0 i)
 
   made_lines : entries_from b.next (expand p.filling b.next (marks p b.entries)) ≡ standing (lines_made (rows_made c s.version s.form) b.next (spots_in (marks p b.entries)))
   made_lines =
       expand_new b.next p.filling (blank_plan c s.version s.form ls) b.next (le_refl b.next) (marks p b.entries)
       (λ n i. (once.below n (subst (λ (z : List ℕ). Memᴰ n z) (marks_serials p b.entries) i)).1)
-      ∙ ap (λ (z : List Line). standing z) (made_as p.filling (rows_made c s.version s.form) (spots_in (marks p b.entries)) made_rows_lem b.next)
+      ∙ ap (λ (z : List Line). standing z) (made_as p.filling (rows_made c s.version s.form) (spots_in (marks p b.entries)) made_rows b.next)
 
   made_next : b.next + new_rows p.filling * spot_count (marks p b.entries) ≡ b.next + new_rows (rows_made c s.version s.form) * length (spots_in (marks p b.entries))
   made_next =
       ap (λ (n : ℕ). b.next + n)
-      (ap (λ (n : ℕ). new_rows p.filling * n) (spots_length (marks p b.entries)) ∙ count_as p.filling (rows_made c s.version s.form) (spots_in (marks p b.entries)) made_rows_lem)
+      (ap (λ (n : ℕ). new_rows p.filling * n) (spots_length (marks p b.entries)) ∙ count_as p.filling (rows_made c s.version s.form) (spots_in (marks p b.entries)) made_rows)
 
   other_lines : entry_serials (entries_below b.next (expand p.filling b.next (marks p b.entries))) ≡ ever_made b
   other_lines =

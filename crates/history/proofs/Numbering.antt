@@ -49,7 +49,7 @@ blank_quantify : (version : ℕ) (form : Form) (ls : List Line) (owner txt : Byt
 blank_quantify version form ls owner txt new c done = tt
 blank_quantify version form ls owner txt new c (el old x rest) = blank_fill version form txt x
 blank_quantify version form ls owner txt new c (group old k ms rest) =
-    every_each (λ r b. r.serial ≡ 0) (λ n. fill_definition version form txt n) (group_filling version form new k ms) (λ n i. blank_fill version form txt n)
+    every_each (λ r b. r.serial ≡ 0) (λ n. fill_definition version form txt n) (group_filling new k ms) (λ n i. blank_fill version form txt n)
 
 blank_picked : (f : Context Bytes → Members Bytes → Plan) → ((c : Context Bytes) (t : Members Bytes) → Blank (f c t).filling) → (o : Option (Found Bytes)) → Blank (picked_plan f o).filling
 blank_picked f x none = tt

@@ -219,8 +219,8 @@ module _ (on : (a : Asked) (m : Moment) → Holds m → Onward m (step a m)) whe
   still a later m h l x i j q =
       let o : Onward m (step a m) = on a m h in
       let f : Onward (step a m) (run later (step a m)) = run_on on later (step a m) o.holds in
-      let at_end : StandsAt (serial_of l) (run later (step a m)) = subst (λ (z : ℕ). StandsAt z (run later (step a m))) q (line_serial x (untaken (run later (step a m)).book.entries) j) in
-      ⊎_elim (λ t. absurd (not_both (serial_of l) (run later (step a m)).book.entries f.holds.once.once at_end (keeps_taken (serial_of l) f.follows.lines t)))
+      let at-end : StandsAt (serial_of l) (run later (step a m)) = subst (λ (z : ℕ). StandsAt z (run later (step a m))) q (line_serial x (untaken (run later (step a m)).book.entries) j) in
+      ⊎_elim (λ t. absurd (not_both (serial_of l) (run later (step a m)).book.entries f.holds.once.once at-end (keeps_taken (serial_of l) f.follows.lines t)))
       (λ s. serial_line (serial_of l) (untaken (step a m).book.entries) s)
       (either (serial_of l) (step a m).book.entries (still_there m h a o (serial_of l) (line_serial l (untaken m.book.entries) i)))
 

@@ -11,12 +11,11 @@ ghost use Rattle.layout.specs.Fields.{next_at};
 ghost use Rattle.lookup.specs.Bodies.{bodies_of};
 ghost use Rattle.row_writer.specs.Written.{new_in};
 ghost use Rattle.planned_rows.specs.Planned.{rows_after, planned_in};
-ghost use Rattle.planned_rows.specs.Walking.{Numbers, Sized};
+ghost use Rattle.planned_rows.specs.Walking.{Sized};
 ghost use Rattle.store_laws.specs.Forms.{form_read, Forms};
 ghost use Rattle.store_limits.specs.Limits.{limit_of};
 ghost use Rattle.plan_writer.specs.Heads.{Heads};
 
-use least_member::NUMBERS;
 use row_walk::Plan;
 use store_limits::ROWS_PAST_CEILING;
 
@@ -43,7 +42,6 @@ pub fn put_form(
 /// number, and the form.
 pub fn put_edited(
     store: &[u8],
-    numbers: &[usize; NUMBERS],
     form: &[u8],
     d: usize,
     p: usize,
@@ -52,7 +50,7 @@ pub fn put_edited(
     text: &[u8],
     out: &mut [u8],
 ) -> usize
-    requires { (passes store.now ≡ true) × Numbers store.now numbers.now × (is_value (width_of store.now) text.now ≡ true) × Sized plan × Forms (width_of store.now) form.now d p a
+    requires { (passes store.now ≡ true) × (is_value (width_of store.now) text.now ≡ true) × Sized plan × Forms (width_of store.now) form.now d p a
         × (limit_of (width_of store.now) (length form.now) (length (rows_after plan text.now (bodies_of store.now)))
         (number_at next_at 4 store.now + new_in (rows_after plan text.now (bodies_of store.now))) (length out.old)
         ≡ 0) }
@@ -63,7 +61,7 @@ pub fn put_edited(
 {
     let w = layout::width_in(store);
     let start = layout::header_size() + form.len();
-    let written = planned_rows::walk_rows(store, numbers, plan, text, start, out);
+    let written = planned_rows::walk_rows(store, plan, text, start, out);
     let count = ROWS_PAST_CEILING - written.left;
     put_form(w, store, form, written.serial, d, p, a, count, out);
     written.at

@@ -21,8 +21,6 @@ use Rattle.store_check.specs.Reading.{flat_index_form, entry_of}
 use Rattle.row_writer.specs.declared.Cursor.{Cursor}
 use Rattle.row_writer.specs.Written.{new_in, Written}
 use Rattle.row_writer.proofs.BlockLaws.{Old}
-use Rattle.least_member.specs.Counting.{uncut}
-use Rattle.filling_sizes.specs.Sizes.{rows_index}
 use Rattle.filling.specs.declared.Filling.TheVariants.{Attribute}
 use Rattle.filling.specs.Parts.{value_of}
 use Rattle.filling.proofs.DepthLaws.{length_filling}
@@ -52,8 +50,8 @@ sized_each s = record { moves = record { definitions = s.moves.definitions; attr
 
 times_filling : (p : Plan) (v : Bytes) (f : FlatStore) (d : ℕ) → Times (length (fill_of p v f 0)) (fill_of p v f d) (fill_of (one_row p) v f d)
 times_filling p v f d =
-    let same = length_filling (flat_index_form f) (λ j. value_of (entry_of j f.attributes)) (rows_index (flat_index_form f) uncut) (λ k e. members_at f k e) p.filling v d 0 in
-    let new = new_filling (flat_index_form f) (λ j. value_of (entry_of j f.attributes)) (rows_index (flat_index_form f) uncut) (λ k e. members_at f k e) p.filling v d in
+    let same = length_filling (flat_index_form f) (λ j. value_of (entry_of j f.attributes)) (λ k e. members_at f k e) p.filling v d 0 in
+    let new = new_filling (flat_index_form f) (λ j. value_of (entry_of j f.attributes)) (λ k e. members_at f k e) p.filling v d in
     record { rows = omega (arith, same); new = omega (arith, same, new) }
 
 -- the rows of a store that passes
@@ -82,8 +80,8 @@ times_of bs q p v e = subst (λ (z : Plan). Times (length (fill_of p v (bodies_o
 -- ---- the numbers
 -- of X rows M are new: F at each of P places, beside L - P others
 module _ (w form room N F P L X M : ℕ) (few : P ≤ L) (rows : X + P ≡ L + F * P) (new : M ≡ F * P) where
-  limit_exact : {k : ℕ} → k ≡ F * P → limit_of w form (L - P + k) (N + k) room ≡ limit_of w form X (N + M) room
-  limit_exact {k} e = ap₂ (λ (n next : ℕ). limit_of w form n next room) (omega (arith, few, rows, e)) (omega (arith, new, e))
+  exact : {k : ℕ} → k ≡ F * P → limit_of w form (L - P + k) (N + k) room ≡ limit_of w form X (N + M) room
+  exact {k} e = ap₂ (λ (n next : ℕ). limit_of w form n next room) (omega (arith, few, rows, e)) (omega (arith, new, e))
 
   -- .. where F was counted up to one past the ceiling
   pub limit_times : {one : ℕ} → one ≡ 4097 - (4097 - F) → limit_of w form (L - P + one * P) (N + one * P) room ≡ limit_of w form X (N + M) room
@@ -93,7 +91,7 @@ module _ (w form room N F P L X M : ℕ) (few : P ≤ L) (rows : X + P ≡ L + F
       place zero z l =
           let none : one * P ≡ one * 0 = ap (λ (n : ℕ). one * n) z in
           let none' : F * P ≡ F * 0 = ap (λ (n : ℕ). F * n) z in
-          limit_exact (omega (arith, none, none'))
+          exact (omega (arith, none, none'))
       place (suc k) z l =
           let some : 1 ≤ P = omega (arith, z) in
           let many : one * 1 ≤ one * P = mul-le-mul_left one some in
@@ -104,7 +102,7 @@ module _ (w form room N F P L X M : ℕ) (few : P ≤ L) (rows : X + P ≡ L + F
       by : (b : Bool) → leb F 4097 ≡ b → limit_of w form (L - P + one * P) (N + one * P) room ≡ limit_of w form X (N + M) room
       by true q =
           let is : one ≡ F = omega (arith, e, leb-true F 4097 q) in
-          limit_exact (ap (λ (n : ℕ). n * P) is)
+          exact (ap (λ (n : ℕ). n * P) is)
       by false q = place P refl (leb-false F 4097 q)
 
 -- ---- w: the width of a store; xs: the rows after the plan; ys: those of the walk that counts the places

@@ -1,6 +1,4 @@
 pub mod PartLaws
-pub mod HeightLaws
-pub mod StopLaws
 pub mod WalkLaws
 pub mod RefusalLaws
 pub mod FilledLaws

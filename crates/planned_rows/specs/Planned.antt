@@ -7,8 +7,6 @@ use Rattle.rules.specs.Layout.{FlatRow, FlatStore}
 use Rattle.model.specs.Members.{index_members}
 use Rattle.store_check.specs.Reading.{flat_index_form, entry_of}
 use Rattle.row_writer.specs.Written.{new_in, numbered}
-use Rattle.least_member.specs.Counting.{uncut}
-use Rattle.filling_sizes.specs.Sizes.{rows_index}
 use Rattle.filling.specs.Fillings.{filling_rows}
 use Rattle.filling.specs.Parts.{value_of}
 use Rattle.row_walk.specs.declared.Plan.{Plan}
@@ -20,7 +18,7 @@ members_at f k e = index_members (build (drop k f.particles) e)
 
 -- the rows of the filling of a plan, at a depth
 abbrev pub fill_of : Plan → Bytes → FlatStore → ℕ → List (Deep FlatRow)
-fill_of p v f d = filling_rows (flat_index_form f) (λ j. value_of (entry_of j f.attributes)) (rows_index (flat_index_form f) uncut) (λ k e. members_at f k e) p.filling v d
+fill_of p v f d = filling_rows (flat_index_form f) (λ j. value_of (entry_of j f.attributes)) (λ k e. members_at f k e) p.filling v d
 
 -- the rows after a plan with the value v, the new ones without serials
 unfoldable pub rows_after : Plan → Bytes → FlatStore → List (Deep FlatRow)

@@ -12,46 +12,17 @@ ghost use Rattle.row_writer.specs.Written.{Written, new_in};
 ghost use Rattle.plan_numbers.specs.Refilled.{refilled};
 ghost use Rattle.row_bound.specs.Bound.{counted_to, Bounds};
 ghost use Rattle.planned_rows.specs.Planned.{fill_of, rows_after};
-ghost use Rattle.planned_rows.specs.Walking.{walk_from, Numbers, Sized};
+ghost use Rattle.planned_rows.specs.Walking.{walk_from, Sized};
 
 use filling::Filling;
-use least_member::NUMBERS;
 use row_bound::Most;
 use row_walk::Plan;
 use row_writer::Cursor;
 use store_limits::ROWS_PAST_CEILING;
 
-/// The numbers of a store's form that the walk is lent, with how many rows each definition's filling has: counted once
-/// for a call.
-pub fn numbers_of(store: &[u8]) -> [usize; NUMBERS]
-    requires { passes store.now ≡ true }
-    ensures { Numbers store.now result }
-{
-    let s = layout::shape_of(store);
-    let defs = layout::definition_body(store, s);
-    let parts = layout::particle_body(store, s);
-    let attrs = layout::attribute_body(store, s);
-    filling_sizes::form_numbers(
-        s.version as usize,
-        s.width,
-        s.definitions,
-        defs,
-        parts,
-        s.attributes,
-        attrs,
-    )
-}
-
 /// The walk over the rows of a store, which writes from `at` on.
-pub fn walk_rows(
-    store: &[u8],
-    numbers: &[usize; NUMBERS],
-    plan: Plan,
-    text: &[u8],
-    at: usize,
-    out: &mut [u8],
-) -> Cursor
-    requires { (passes store.now ≡ true) × Numbers store.now numbers.now × (is_value (width_of store.now) text.now ≡ true) × Sized plan × (at < 549755813888) }
+pub fn walk_rows(store: &[u8], plan: Plan, text: &[u8], at: usize, out: &mut [u8]) -> Cursor
+    requires { (passes store.now ≡ true) × (is_value (width_of store.now) text.now ≡ true) × Sized plan × (at < 549755813888) }
     ensures { Written (width_of store.now) (rows_after plan text.now (bodies_of store.now))
         (walk_from at store.now) out.old result out.new }
 {
@@ -66,13 +37,25 @@ pub fn walk_rows(
         serial: layout::next_serial(store),
     };
     walk_writer::walk(
-        numbers, defs, parts, attrs, rows, s.rows, plan, text, c, out,
+        s.version as usize,
+        s.width,
+        s.definitions,
+        defs,
+        parts,
+        s.attributes,
+        attrs,
+        rows,
+        s.rows,
+        plan,
+        text,
+        c,
+        out,
     )
 }
 
 // The most rows that a plan adds to those of a store.
-fn most_added(store: &[u8], numbers: &[usize; NUMBERS], plan: Plan, text: &[u8]) -> Most
-    requires { (passes store.now ≡ true) × Numbers store.now numbers.now × (is_value (width_of store.now) text.now ≡ true) × Sized plan }
+fn most_added(store: &[u8], plan: Plan, text: &[u8]) -> Most
+    requires { (passes store.now ≡ true) × (is_value (width_of store.now) text.now ≡ true) × Sized plan }
     ensures { Bounds (rows_after plan text.now (bodies_of store.now)) (fill_of plan text.now (bodies_of store.now) 0)
         (row_count store.now) result }
 {
@@ -81,7 +64,19 @@ fn most_added(store: &[u8], numbers: &[usize; NUMBERS], plan: Plan, text: &[u8])
     let parts = layout::particle_body(store, s);
     let attrs = layout::attribute_body(store, s);
     let rows = layout::row_body(store, s);
-    row_bound::most_added(numbers, defs, parts, attrs, rows, s.rows, plan, text)
+    row_bound::most_added(
+        s.version as usize,
+        s.width,
+        s.definitions,
+        defs,
+        parts,
+        s.attributes,
+        attrs,
+        rows,
+        s.rows,
+        plan,
+        text,
+    )
 }
 
 // A plan with one row in the place of each filling: the new rows of its walk are as many as the places that are filled.
@@ -113,14 +108,13 @@ fn one_row_each(plan: Plan) -> Plan
 // counted by a walk into a buffer of one byte, so that no filling is gone through for it.
 fn filled_refusal(
     store: &[u8],
-    numbers: &[usize; NUMBERS],
     form: usize,
     plan: Plan,
     text: &[u8],
     one: usize,
     room: usize,
 ) -> u32
-    requires { (passes store.now ≡ true) × Numbers store.now numbers.now × (is_value (width_of store.now) text.now ≡ true) × Sized plan × (form ≤ most_form) × (1 ≤ one)
+    requires { (passes store.now ≡ true) × (is_value (width_of store.now) text.now ≡ true) × Sized plan × (form ≤ most_form) × (1 ≤ one)
         × (one ≡ counted_to (fill_of plan text.now (bodies_of store.now) 0)) }
     ensures { result
         ≡ limit_of (width_of store.now) form (length (rows_after plan text.now (bodies_of store.now)))
@@ -130,7 +124,7 @@ fn filled_refusal(
     let next = layout::next_serial(store);
     let mut clipped = [0; 1];
     let each = one_row_each(plan);
-    let counted = walk_rows(store, numbers, each, text, 0, &mut clipped);
+    let counted = walk_rows(store, each, text, 0, &mut clipped);
     if counted.left == 0 {
         return 16;
     }
@@ -147,21 +141,14 @@ fn filled_refusal(
 
 /// The refusal, or 0, of the store after a plan, with a form of so many bytes. Only where the most that the plan adds
 /// is too much are the rows counted, by a walk into a buffer of one byte.
-pub fn refusal(
-    store: &[u8],
-    numbers: &[usize; NUMBERS],
-    form: usize,
-    plan: Plan,
-    text: &[u8],
-    room: usize,
-) -> u32
-    requires { (passes store.now ≡ true) × Numbers store.now numbers.now × (is_value (width_of store.now) text.now ≡ true) × Sized plan × (form ≤ most_form) }
+pub fn refusal(store: &[u8], form: usize, plan: Plan, text: &[u8], room: usize) -> u32
+    requires { (passes store.now ≡ true) × (is_value (width_of store.now) text.now ≡ true) × Sized plan × (form ≤ most_form) }
     ensures { result
         ≡ limit_of (width_of store.now) form (length (rows_after plan text.now (bodies_of store.now)))
         (number_at next_at 4 store.now + new_in (rows_after plan text.now (bodies_of store.now))) room }
 {
     let w = layout::width_in(store);
-    let most = most_added(store, numbers, plan, text);
+    let most = most_added(store, plan, text);
     let more = most.all;
     let count = layout::row_count(store);
     let next = layout::next_serial(store);
@@ -169,10 +156,10 @@ pub fn refusal(
         return 0;
     }
     if 0 < most.one {
-        return filled_refusal(store, numbers, form, plan, text, most.one, room);
+        return filled_refusal(store, form, plan, text, most.one, room);
     }
     let mut clipped = [0; 1];
-    let counted = walk_rows(store, numbers, plan, text, 0, &mut clipped);
+    let counted = walk_rows(store, plan, text, 0, &mut clipped);
     store_limits::limit(
         w,
         form,

@@ -1,5 +1,3 @@
-pub mod RequiredAttributes
-pub mod SizesNamed
 pub mod Fillings
 pub mod Numbered
 pub mod TreeWalk

@@ -20,7 +20,7 @@ use Rattle.rules.specs.Layout.{FlatRow, index_of, indexed, flat}
 use Rattle.rules.specs.Decode.{quantifier_of}
 use Rattle.rules.specs.WellFormed.{definition_name, known}
 use Rattle.rules.specs.Conforming.{is_element}
-use Rattle.rules.specs.Filling.{filled_rows, fill_each, fill_definition}
+use Rattle.rules.specs.Filling.{fill_each, fill_definition}
 use Rattle.rules.specs.Lines.{lines, element_named, element_among}
 use Rattle.rules.specs.Passing.{good}
 use Rattle.rules.specs.Change.{change_quantifier, change_group_quantifier, definition_at, name_at_index, update, in_model, edit_at, form_after, group_filling, quantify_plan, picked_plan, plan, changed}
@@ -29,8 +29,6 @@ use Rattle.rules.proofs.Letters.{member_in, member_out}
 use Rattle.rules.proofs.PassingLaws.{good_is}
 use Rattle.change_laws.proofs.Rowwise.{Standing}
 use Rattle.store_check.specs.Reading.{flat_index_form, entry_of}
-use Rattle.least_member.specs.Counting.{uncut}
-use Rattle.filling_sizes.specs.Sizes.{rows_index}
 use Rattle.filling.specs.declared.Filling.{Filling}
 use Rattle.filling.specs.declared.Filling.TheVariants.{Definition, Particles}
 use Rattle.filling.specs.Fillings.{filling_rows}
@@ -73,12 +71,12 @@ module _ (s : Store) (g : good s ≡ true) (o : ℕ) (l : o < length s.form) (p 
   once : Distinct (map definition_name s.form)
   once = ((good_is s).0 g).form.names
 
-  abbrev made_rows : Filling → ℕ → List (Deep FlatRow)
-  made_rows what d = filling_rows (flat_index_form (flat s)) (λ j. value_of (entry_of j (flat s).attributes)) (rows_index (flat_index_form (flat s)) uncut) (λ a b. members_at (flat s) a b) what t d
+  abbrev rows_of : Filling → ℕ → List (Deep FlatRow)
+  rows_of what d = filling_rows (flat_index_form (flat s)) (λ j. value_of (entry_of j (flat s).attributes)) (λ a b. members_at (flat s) a b) what t d
 
   -- the filling if there is a gain
-  gained : (what : Filling) (rows : Forest Row) (b : Bool) (d : ℕ) (m : Bytes) → (b ≡ true → made_rows what d ≡ preorder d (indexed s.form m rows))
-      → made_rows (gain_filling b what) d ≡ owed b (preorder d (indexed s.form m rows))
+  gained : (what : Filling) (rows : Forest Row) (b : Bool) (d : ℕ) (m : Bytes) → (b ≡ true → rows_of what d ≡ preorder d (indexed s.form m rows))
+      → rows_of (gain_filling b what) d ≡ owed b (preorder d (indexed s.form m rows))
   gained what rows true d m e = e refl
   gained what rows false d m e = refl
 
@@ -95,7 +93,7 @@ module _ (s : Store) (g : good s ≡ true) (o : ℕ) (l : o < length s.form) (p 
     among : (r : Row) → element_named n r ≡ element_among (n ∷ []) r
     among r = ap (λ (z : Bool). is_element r.sort && z) (same_one n r.name)
 
-    definition_rows_lem : (d : ℕ) (m : Bytes) → made_rows (Definition x) d ≡ preorder d (indexed s.form m (fill_definition s.version s.form t n))
+    definition_rows_lem : (d : ℕ) (m : Bytes) → rows_of (Definition x) d ≡ preorder d (indexed s.form m (fill_definition s.version s.form t n))
     definition_rows_lem d m =
         let (below, name) = index_of_name_lem s.form once n there in
         sym (filling_index s g t d x m below) ∙ ap (λ (z : Bytes). preorder d (indexed s.form m (fill_definition s.version s.form t z))) name
@@ -125,19 +123,19 @@ module _ (s : Store) (g : good s ≡ true) (o : ℕ) (l : o < length s.form) (p 
       (marked : (spine c && gains old (quantifier_of k)) ≡ true → Marked s.form (before_place c) (names ms) marks) (f e : ℕ)
       (begin : (spine c && gains old (quantifier_of k)) ≡ true → members_at (flat s) f e ≡ rename (λ n. index_of n s.form) ms) where
     abbrev rows : Forest Row
-    rows = fill_each (λ n. fill_definition s.version s.form t n) (group_filling s.version s.form new j ms)
+    rows = fill_each (λ n. fill_definition s.version s.form t n) (group_filling new j ms)
 
     -- a gain needs a filling
-    needed : gain ≡ true → group_filling s.version s.form new j ms ≡ unless (nothing j ms) (filling (filled_rows s.version s.form) j ms)
+    needed : gain ≡ true → group_filling new j ms ≡ unless (nothing j ms) (filling j ms)
     needed h =
         let (a, b) = and_split (spine c) (gains old new) h in
-        ap (λ (z : Bool). unless (z || nothing j ms) (filling (filled_rows s.version s.form) j ms)) (not-true (skips new) (and_split (not (skips new)) (skips old) b).0)
+        ap (λ (z : Bool). unless (z || nothing j ms) (filling j ms)) (not-true (skips new) (and_split (not (skips new)) (skips old) b).0)
 
     known_member : (n : Bytes) → Memᴰ n (names ms) → known s.form n ≡ true
     unfolding names
     known_member n m = picked_known s g o l (quantify new) p (record { context = c; picked = group old j ms rest }) at n (Memᴰ.append_left (names rest) m)
 
-    group_rows : gain ≡ true → (d : ℕ) (m : Bytes) → made_rows (Particles j f e) d ≡ preorder d (indexed s.form m rows)
+    group_rows : gain ≡ true → (d : ℕ) (m : Bytes) → rows_of (Particles j f e) d ≡ preorder d (indexed s.form m rows)
     group_rows h d m =
         filling_group s g t d m j ms f e known_member (begin h)
         ∙ ap (λ (ns : List Bytes). preorder d (indexed s.form m (fill_each (λ n. fill_definition s.version s.form t n) ns))) (sym (needed h))

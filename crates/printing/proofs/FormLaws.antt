@@ -77,20 +77,20 @@ pub declarations_laid : (bs : Bytes) (o from : ℕ) (p : Bytes) → p ≡ defini
     → LaidWithin 192000 (attributes_text w (of_owner o (attributes_from bs (attribute_count bs) 0))) o₁ a₁ r o₂
     → LaidWithin 840000 (declarations_text (names_of bs) o (read_definition (definition_part bs o)) (particles_from bs (particle_count bs) from) (attributes_from bs (attribute_count bs) 0)) out at r o₂
 unfolding declarations_text
-declarations_laid bs o from p at-o h n end n-is e {w} d m a =
+declarations_laid bs o from p at-o h n end n_is e {w} d m a =
     record {
       laid =
           laid_as
           (ap₂
           (λ (xs : List (Deep FlatParticle)) (z : Bytes). definition_text (names_of bs) (read_definition (definition_part bs o)) xs
           ++ attributes_text z (of_owner o (attributes_from bs (attribute_count bs) 0)))
-          (ap (λ (k : ℕ). take k (particles_from bs (particle_count bs) from)) (particles_here bs o p at-o n n-is) ∙ e) (sym (m.name_is ∙ definition_name_lem bs o h)))
+          (ap (λ (k : ℕ). take k (particles_from bs (particle_count bs) from)) (particles_here bs o p at-o n n_is) ∙ e) (sym (m.name_is ∙ definition_name_lem bs o h)))
           (laid_then d.laid a.laid);
       small = omega (arith, d.small, a.small);
     }
   where
     particles_here : (bs : Bytes) (o : ℕ) (p : Bytes) → p ≡ definition_part bs o → (n : ℕ) → n ≡ (read_definition p).particles → (read_definition (definition_part bs o)).particles ≡ n
-    particles_here bs o p at-o n n-is = sym (n-is ∙ ap (λ (l : Bytes). (read_definition l).particles) at-o)
+    particles_here bs o p at-o n n_is = sym (n_is ∙ ap (λ (l : Bytes). (read_definition l).particles) at-o)
 
 -- the loop over the definitions: once the rest of the form is written, all is
 pub record Declaring (bs : Bytes) (count : ℕ) (goal out₀ : Bytes) (at₀ : ℕ) (out : Bytes) (at o from : ℕ) : Type 0 where
@@ -122,7 +122,7 @@ pub declaring_on : (bs : Bytes) (count : ℕ) {goal out₀ : Bytes} {at₀ : ℕ
     → (p : Bytes) → p ≡ definition_part bs o → (n : ℕ) → n ≡ (read_definition p).particles → n < 4294967296
     → LaidWithin 840000 (declarations_text (names_of bs) o (read_definition (definition_part bs o)) (particles_from bs (particle_count bs) from) (attributes_from bs (attribute_count bs) 0)) out at at' out'
     → Declaring bs count goal out₀ at₀ out' at' (o + 1) (from + n)
-declaring_on bs count {o = o} {from = from} w h p at-o n n-is small l =
+declaring_on bs count {o = o} {from = from} w h p at-o n n_is small l =
     record {
       counts = w.counts;
       upto = omega arith;
@@ -150,7 +150,7 @@ declaring_on bs count {o = o} {from = from} w h p at-o n n-is small l =
     cs = attributes_from bs (attribute_count bs) 0
 
     particles : (read_definition (definition_part bs o)).particles ≡ n
-    particles = sym (n-is ∙ ap (λ (l : Bytes). (read_definition l).particles) at-o)
+    particles = sym (n_is ∙ ap (λ (l : Bytes). (read_definition l).particles) at-o)
 
 pub declaring_done : (bs : Bytes) (count : ℕ) {goal out₀ : Bytes} {at₀ : ℕ} {out : Bytes} {at o from : ℕ} → Declaring bs count goal out₀ at₀ out at o from
     → count ≤ o → definition_count bs ≤ 64 → LaidWithin 53760000 goal out₀ at₀ at out

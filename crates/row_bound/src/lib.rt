@@ -5,13 +5,11 @@ ghost use Rattle.rules.specs.Decode.{read_row, read_many};
 ghost use Rattle.layout.specs.Bodies.{Width};
 ghost use Rattle.row_walk.specs.Walk.{matches, names_ground, walked, at_first};
 ghost use Rattle.row_walk.specs.Step.{valueless};
-ghost use Rattle.least_member.specs.Counting.{width_in, count_in, definition_count_in};
-ghost use Rattle.walk_writer.specs.Step.{plan_filling, ReadyIn, WalkRows};
-ghost use Rattle.filling.specs.Parts.{fill_with, Indexed};
+ghost use Rattle.walk_writer.specs.Step.{fill_with, plan_filling, Ready, WalkRows};
+ghost use Rattle.filling.specs.Parts.{Indexed};
 ghost use Rattle.row_bound.specs.Bound.{only_if, matching_in, places_in, counted_to, Bounds};
 
 use filling::Filling;
-use least_member::NUMBERS;
 use row_walk::{Head, Plan, Which};
 use row_writer::Cursor;
 use store_limits::ROWS_PAST_CEILING;
@@ -89,15 +87,18 @@ fn places(w: usize, rows: &[u8], count: usize, above: Which) -> usize
 
 // The rows of a filling, counted up to one past the ceiling.
 fn filling_rows<'a>(
-    numbers: &[usize; NUMBERS],
+    version: usize,
+    w: usize,
+    n: usize,
     defs: &'a [u8],
     parts: &'a [u8],
+    a: usize,
     attrs: &'a [u8],
     what: Filling,
     text: &[u8],
 ) -> usize
-    requires { Indexed what × Width (width_in numbers.now) × (length text.now ≤ width_in numbers.now) × (count_in numbers.now ≤ 64) × (definition_count_in numbers.now ≤ 64) }
-    ensures { (result ≡ counted_to (fill_with numbers.now defs.now parts.now attrs.now what text.now 0)) × (result ≤ 4097) }
+    requires { Indexed what × Width w × (length text.now ≤ w) × (a ≤ 64) × (n ≤ 64) }
+    ensures { (result ≡ counted_to (fill_with version w n defs.now parts.now a attrs.now what text.now 0)) × (result ≤ 4097) }
 {
     let mut clipped = [0; 1];
     let c = Cursor {
@@ -105,38 +106,53 @@ fn filling_rows<'a>(
         left: ROWS_PAST_CEILING,
         serial: 0,
     };
-    let r = filling::put_filling(numbers, defs, parts, attrs, what, text, 0, c, &mut clipped);
+    let r = filling::put_filling(
+        version,
+        w,
+        n,
+        defs,
+        parts,
+        a,
+        attrs,
+        what,
+        text,
+        0,
+        c,
+        &mut clipped,
+    );
     ROWS_PAST_CEILING - r.left
 }
 
 /// The most rows that the walk over `count` rows with a plan adds.
 pub fn most_added<'a>(
-    numbers: &[usize; NUMBERS],
+    version: usize,
+    w: usize,
+    n: usize,
     defs: &'a [u8],
     parts: &'a [u8],
+    a: usize,
     attrs: &'a [u8],
     rows: &[u8],
     count: usize,
     plan: Plan,
     text: &[u8],
 ) -> Most
-    requires { ReadyIn numbers.now text.now plan × WalkRows (width_in numbers.now) count rows.now
-        × (row_size (width_in numbers.now) * count ≤ length rows.now) × (count ≤ 4096) }
+    requires { Ready w n a text.now plan × WalkRows w count rows.now × (row_size w * count ≤ length rows.now) × (count ≤ 4096) }
     ensures { Bounds
-        (walked plan text.now (plan_filling numbers.now defs.now parts.now attrs.now plan text.now)
-        (at_first plan) (read_many read_row (row_size (width_in numbers.now)) count rows.now))
-        (plan_filling numbers.now defs.now parts.now attrs.now plan text.now 0)
+        (walked plan text.now (plan_filling version w n defs.now parts.now a attrs.now plan text.now)
+        (at_first plan) (read_many read_row (row_size w) count rows.now))
+        (plan_filling version w n defs.now parts.now a attrs.now plan text.now 0)
         count result }
 {
     if !plan.fills {
         return Most { one: 0, all: 0 };
     }
     let what = plan.filling;
-    let one = filling_rows(numbers, defs, parts, attrs, what, text);
+    let one = filling_rows(version, w, n, defs, parts, a, attrs, what, text);
     if one == 0 {
         return Most { one: 0, all: 0 };
     }
     let above = plan.above;
-    let all = one * places(numbers[0], rows, count, above);
+    let all = one * places(w, rows, count, above);
     Most { one, all }
 }

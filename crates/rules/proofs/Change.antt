@@ -1,5 +1,4 @@
 -- Changes 3 to 8: what is not refused leaves the children of each instance a word of the new model.
-use Prim.Native.Nat.{ℕ}
 use mathlib.Core.Path.{◌≡◌, refl, sym, ◌∙◌}
 use mathlib.Core.Bool.{Bool, true, false, ◌&&◌, ◌||◌, false≢true}
 use mathlib.Core.List.{List}
@@ -49,9 +48,9 @@ module _ {A : Type 0} (E : Equality A) (c : Context A) where
       by true false f g = rw (g, requantified) ((relax_element Sequence c x t (relaxes→ q r f)).carry w m)
       by false false f g = absurd (false≢true (sym (rw (f, g) at e)))
 
-  pub group_conforms : (rows : List A → ℕ) (q r : Quantifier) (j : GroupKind) (ms t : Members A) → Distinct (names (plug c (group q j ms t))) → Full ms → Some ms → quantify_group_off c q r ≡ false
-      → (w : List A) → Conforms (plug c (group q j ms t)) w → Conforms (plug c (group r j ms t)) (group_requantified rows E c q r j ms w)
-  group_conforms rows q r j ms t d f o e w m = by (relaxes q r) (spine c) refl refl
+  pub group_conforms : (q r : Quantifier) (j : GroupKind) (ms t : Members A) → Distinct (names (plug c (group q j ms t))) → Full ms → Some ms → quantify_group_off c q r ≡ false
+      → (w : List A) → Conforms (plug c (group q j ms t)) w → Conforms (plug c (group r j ms t)) (group_requantified E c q r j ms w)
+  group_conforms q r j ms t d f o e w m = by (relaxes q r) (spine c) refl refl
     where
       left : (a b : Bool) → (a || b) ≡ false → a ≡ false
       left true b z = z
@@ -61,8 +60,8 @@ module _ {A : Type 0} (E : Equality A) (c : Context A) where
       right true b z = absurd (false≢true (sym z))
       right false b z = z
 
-      by : (a b : Bool) → relaxes q r ≡ a → spine c ≡ b → Conforms (plug c (group r j ms t)) (group_requantified rows E c q r j ms w)
-      by a true p g = rw (g, group_requantified) (refit_group_lem E c g q r j ms t d f o (right (quantify_off c q r) (cuts q r) e) rows w m)
+      by : (a b : Bool) → relaxes q r ≡ a → spine c ≡ b → Conforms (plug c (group r j ms t)) (group_requantified E c q r j ms w)
+      by a true p g = rw (g, group_requantified) (refit_group_lem E c g q r j ms t d f o (right (quantify_off c q r) (cuts q r) e) w m)
       by true false p g = rw (g, group_requantified) ((relax_group Sequence c j ms t (relaxes→ q r p)).carry w m)
       by false false p g = absurd (false≢true (sym (rw (p, g) at (left (quantify_off c q r) (cuts q r) e))))
 

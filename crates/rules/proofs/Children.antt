@@ -1,5 +1,4 @@
 -- What changes 3 to 8 do to the names of one instance's children.
-use Prim.Native.Nat.{ℕ}
 use mathlib.Core.Bool.{Bool, true, false, ◌&&◌, ◌||◌, not}
 use mathlib.Core.List.{List, [], ◌∷◌, ◌++◌}
 use Rattle.rules.specs.declared.Quantifier.{Quantifier}
@@ -33,16 +32,15 @@ refit E ns x q r w =
       | false ↦ elim (gains q r) [ true ↦ placed E ns (x ∷ []) w | false ↦ w ]
     ]
 
--- 8: the same for a group that is not cut: an instance without a child of the group gets its filling; `rows` as in
--- `chosen`
+-- 8: the same for a group that is not cut: an instance without a child of the group gets its filling
 unfoldable pub any_of : {A : Type 0} → Equality A → List A → List A → Bool
 any_of E ns [] = false
 any_of E ns (y ∷ w) = elim (member E y ns) [ true ↦ true | false ↦ any_of E ns w ]
 
-unfoldable pub refit_group : {A : Type 0} → (List A → ℕ) → Equality A → List A → Quantifier → Quantifier → GroupKind → Members A → List A → List A
-refit_group rows E ns q r j ms w =
+unfoldable pub refit_group : {A : Type 0} → Equality A → List A → Quantifier → Quantifier → GroupKind → Members A → List A → List A
+refit_group E ns q r j ms w =
     elim (gains q r) [
-      | true ↦ elim (any_of E (names ms) w) [ true ↦ w | false ↦ placed E ns (unless (skips r || nothing j ms) (filling rows j ms)) w ]
+      | true ↦ elim (any_of E (names ms) w) [ true ↦ w | false ↦ placed E ns (unless (skips r || nothing j ms) (filling j ms)) w ]
       | false ↦ w
     ]
 
@@ -65,8 +63,8 @@ inserted E c q n w = elim (not (skips q) && spine c) [ true ↦ placed E (before
 abbrev pub requantified : {A : Type 0} → Equality A → Context A → A → Quantifier → Quantifier → List A → List A
 requantified E c x q r w = elim (spine c) [ true ↦ refit E (before_place c) x q r w | false ↦ w ]
 
-abbrev pub group_requantified : {A : Type 0} → (List A → ℕ) → Equality A → Context A → Quantifier → Quantifier → GroupKind → Members A → List A → List A
-group_requantified rows E c q r j ms w = elim (spine c) [ true ↦ refit_group rows E (before_place c) q r j ms w | false ↦ w ]
+abbrev pub group_requantified : {A : Type 0} → Equality A → Context A → Quantifier → Quantifier → GroupKind → Members A → List A → List A
+group_requantified E c q r j ms w = elim (spine c) [ true ↦ refit_group E (before_place c) q r j ms w | false ↦ w ]
 
 -- rows 8, 10 and 14
 unfoldable pub misplaced : {A : Type 0} → Equality A → Edit A → Context A → Members A → Bool
@@ -94,16 +92,16 @@ unfit (quantify r) c (group q k ms t) = quantify_group_off c q r
 unfit (convert j n) c t = false
 unfit flatten c t = false
 
-unfoldable pub children : {A : Type 0} → (List A → ℕ) → Equality A → Edit A → Context A → Members A → List A → List A
-children rows E (insert q n) c t w = inserted E c q n w
-children rows E remove c done w = w
-children rows E remove c (el q x t) w = erase E x w
-children rows E remove c (group q k ms t) w = w
-children rows E (quantify r) c done w = w
-children rows E (quantify r) c (el q x t) w = requantified E c x q r w
-children rows E (quantify r) c (group q k ms t) w = group_requantified rows E c q r k ms w
-children rows E (convert j n) c t w = w
-children rows E flatten c t w = w
+unfoldable pub children : {A : Type 0} → Equality A → Edit A → Context A → Members A → List A → List A
+children E (insert q n) c t w = inserted E c q n w
+children E remove c done w = w
+children E remove c (el q x t) w = erase E x w
+children E remove c (group q k ms t) w = w
+children E (quantify r) c done w = w
+children E (quantify r) c (el q x t) w = requantified E c x q r w
+children E (quantify r) c (group q k ms t) w = group_requantified E c q r k ms w
+children E (convert j n) c t w = w
+children E flatten c t w = w
 
 -- of a model: no name twice, inner groups not empty
 pub record Sound {A : Type 0} (ms : Members A) : Type 0 where

@@ -8,7 +8,7 @@ use lib.ListN.{length}
 use Rattle.rules.specs.declared.Quantifier.TheVariants.{None, Qmark, Star, Plus}
 use Rattle.rules.specs.declared.GroupKind.TheVariants.{Sequence, Choice}
 use Rattle.rules.specs.Bytes.{Bytes, same, ascii, concat, bytes, numbers}
-use Rattle.rules.specs.Model.{Members, done, el, group, names, nothing, total_size, filling, member, full, distinct}
+use Rattle.rules.specs.Model.{Members, done, el, group, names, nothing, filling, member, full, distinct}
 use Rattle.rules.specs.Language.{Conforms}
 use Rattle.rules.specs.Automaton.{accepts, continues, facts}
 use Rattle.rules.specs.Store.{Content, empty, pcdata, complex, implied, required, fixed, Definition, Form, element, attribute, text, Row, Forest, bare, tree, Store, members}
@@ -17,7 +17,7 @@ use Rattle.rules.specs.Layout.{base_version, value_width, flat, encode, each, ro
 use Rattle.rules.specs.WellFormed.{reaches, good_definition, well_formed}
 use Rattle.rules.specs.Conforming.{strip, fits_row, conforming}
 use Rattle.rules.specs.Passing.{serials, good, good_serials}
-use Rattle.rules.specs.Filling.{attributes_size, content_size, size_within, filled_rows, fill_attributes, fill_each, fill_content, fill_within}
+use Rattle.rules.specs.Filling.{fill_attributes, fill_each, fill_content, fill_within}
 use Rattle.rules.specs.Place.{plug, kind_at, spine, before_place, around, after_members, find}
 use Rattle.rules.specs.Edit.{◌⊕◌, edited, place, place_of}
 use Rattle.rules.specs.Lines.{find_row, children_of}
@@ -80,10 +80,6 @@ serials_then k s = serials (after k s).docs
 abbrev optional_then_either : Members Bytes
 optional_then_either = el Qmark a (group Star Choice (el None b (el None c done)) done)
 
--- ((a|b),c?)
-abbrev either_then_optional : Members Bytes
-either_then_optional = group None Choice (el None a (el None b done)) (el Qmark c done)
-
 -- (b,a*,c)
 abbrev star_between : Members Bytes
 star_between = el None b (el Star a (el None c done))
@@ -110,7 +106,7 @@ pub record Examples : Type 0 where
   pub p1_empty_language : Conforms optional_then_either []
   pub p2 : accepts bytes optional_then_either (b ∷ a ∷ []) ≡ false
   pub p2_language : Conforms optional_then_either (b ∷ a ∷ []) → ⊥
-  pub p3 : filling (filled_rows base_version (form_of either_then_optional)) Sequence either_then_optional ≡ a ∷ []
+  pub p3 : filling Sequence (group None Choice (el None a (el None b done)) (el Qmark c done)) ≡ a ∷ []
   pub p4_first : serials_then (change_quantifier 0 (2 ∷ []) 0 (ascii "t")) (store_of star_between (b ∷ a ∷ a ∷ a ∷ c ∷ [])) ≡ 1 ∷ 2 ∷ 3 ∷ 6 ∷ []
   pub p4 : refuses (change_quantifier 0 (2 ∷ []) 0 (ascii "t")) (store_of star_between (b ∷ a ∷ a ∷ a ∷ c ∷ [])) ≡ 0
   pub p5_one : serials_then (change_quantifier 0 (2 ∷ []) 0 (ascii "t")) (store_of star_between (b ∷ c ∷ [])) ≡ 1 ∷ 2 ∷ 4 ∷ 3 ∷ []
@@ -126,8 +122,8 @@ pub record Examples : Type 0 where
   pub p12 : refuses (insert_element 0 (2 ∷ 3 ∷ []) 4 0 (ascii "t")) (empty_of nested) ≡ 8
 
 pub examples : Examples
-unfolding value_width names nothing total_size filling member full distinct facts continues accepts plug kind_at spine before_place around after_members find ◌⊕◌ edited place
-    place_of good_definition well_formed strip fits_row conforming good_serials good attributes_size content_size size_within fill_attributes fill_each fill_content fill_within find_row children_of attribute_at
+unfolding value_width names nothing filling member full distinct facts continues accepts plug kind_at spine before_place around after_members find ◌⊕◌ edited place
+    place_of good_definition well_formed strip fits_row conforming good_serials good fill_attributes fill_each fill_content fill_within find_row children_of attribute_at
     form_after plan prune each_row plant new_rows given number after conditions refusal
 examples =
     record {

@@ -1,19 +1,16 @@
 -- A filling is a word of its model.
-use Prim.Native.Nat.{ℕ}
 use native.Mathlib.Omega.{arith}
 use mathlib.Core.Path.{◌≡◌, refl}
-use mathlib.Core.Logic.{inl, inr}
+use mathlib.Core.Logic.{inl}
 use mathlib.Core.Bool.{Bool, true, false, ◌||◌}
 use mathlib.Core.List.{List, [], ◌∷◌, append-nil}
-use lib.Dec.{leb}
 use Rattle.rules.specs.declared.Quantifier.{Quantifier}
 use Rattle.rules.specs.declared.Quantifier.TheVariants.{None, Qmark, Star, Plus}
 use Rattle.rules.specs.declared.GroupKind.{GroupKind}
 use Rattle.rules.specs.declared.GroupKind.TheVariants.{Sequence, Choice}
-use Rattle.rules.specs.Model.{Members, done, el, group, skips, nothing, unless, is_done, beside, filling, Some, Full}
+use Rattle.rules.specs.Model.{Members, done, el, group, skips, nothing, unless, beside, filling, Some, Full}
 use Rattle.rules.specs.Language.{Language, Repeated, Joined, Matches, Conforms}
 use Rattle.rules.proofs.Nothing.{nothing→}
-use Rattle.rules.proofs.Places.{some_done}
 
 -- a CHOICE has a member
 abbrev pub Ready : {A : Type 0} → GroupKind → Members A → Type 0
@@ -25,15 +22,9 @@ ready Sequence ms s = tt
 ready Choice ms s = s
 
 module _ {A : Type 0} (L M : Language A) where
-  -- whichever member the CHOICE fills with; it leaves the first only for another
-  fill_joined : (rows : List A → ℕ) (k : GroupKind) (last : Bool) (u v : List A) → L u → (k ≡ Sequence → M v) → (last ≡ false → M v) → Joined k L M (beside rows k last u v)
-  fill_joined rows Sequence last u v l m o = (u, v, refl, l, m refl)
-  fill_joined rows Choice true u v l m o = inl l
-  fill_joined rows Choice false u v l m o = by (leb (rows u) (rows v))
-    where
-      by : (c : Bool) → Joined Choice L M (elim c [ true ↦ u | false ↦ v ])
-      by true = inl l
-      by false = inr (o refl)
+  fill_joined : (k : GroupKind) (u v : List A) → L u → (k ≡ Sequence → M v) → Joined k L M (beside k u v)
+  fill_joined Sequence u v l m = (u, v, refl, l, m refl)
+  fill_joined Choice u v l m = inl l
 
 module _ {A : Type 0} (L : Language A) where
   fill_repeated : (q : Quantifier) (b : Bool) (f : List A) → (b ≡ true → L []) → L f → Repeated q L (unless (skips q || b) f)
@@ -51,23 +42,19 @@ module _ {A : Type 0} where
   fill_element Star n = (0, tt, refl)
   fill_element Plus n = (1, omega arith, (n ∷ [], [], refl, refl, refl))
 
--- whatever the sizes by which a CHOICE chooses
-module _ {A : Type 0} (rows : List A → ℕ) where
-  filled : (k : GroupKind) (ms : Members A) → Full ms → Ready k ms → Matches k ms (filling rows k ms)
+  filled : (k : GroupKind) (ms : Members A) → Full ms → Ready k ms → Matches k ms (filling k ms)
   unfolding Matches filling Full
   filled Sequence done f r = refl
   filled Choice done f r = absurd r
-  filled k (el q n rest) f r =
-      fill_joined _ _ rows k (is_done rest) (unless (skips q) (n ∷ [])) (filling rows k rest) (fill_element q n) (λ e. filled k rest f (rw e tt))
-      (λ e. filled k rest f (ready k rest (some_done rest e)))
+  filled k (el q n rest) f r = fill_joined _ _ k (unless (skips q) (n ∷ [])) (filling k rest) (fill_element q n) (λ e. filled k rest f (rw e tt))
   filled k (group q j ms rest) (s, g, f) r =
-      fill_joined _ _ rows k (is_done rest) (unless (skips q || nothing j ms) (filling rows j ms)) (filling rows k rest)
-      (fill_repeated _ q (nothing j ms) (filling rows j ms) (nothing→ j ms) (filled j ms g (ready j ms s)))
-      (λ e. filled k rest f (rw e tt)) (λ e. filled k rest f (ready k rest (some_done rest e)))
+      fill_joined _ _ k (unless (skips q || nothing j ms) (filling j ms)) (filling k rest)
+      (fill_repeated _ q (nothing j ms) (filling j ms) (nothing→ j ms) (filled j ms g (ready j ms s)))
+      (λ e. filled k rest f (rw e tt))
 
   -- the filling of a group under a quantifier
-  pub fill_group : (q : Quantifier) (j : GroupKind) (ms : Members A) → Full ms → Some ms → Repeated q (Matches j ms) (unless (skips q || nothing j ms) (filling rows j ms))
-  fill_group q j ms f s = fill_repeated _ q (nothing j ms) (filling rows j ms) (nothing→ j ms) (filled j ms f (ready j ms s))
+  pub fill_group : (q : Quantifier) (j : GroupKind) (ms : Members A) → Full ms → Some ms → Repeated q (Matches j ms) (unless (skips q || nothing j ms) (filling j ms))
+  fill_group q j ms f s = fill_repeated _ q (nothing j ms) (filling j ms) (nothing→ j ms) (filled j ms f (ready j ms s))
 
-  pub filling_conforms : (ms : Members A) → Full ms → Conforms ms (filling rows Sequence ms)
+  pub filling_conforms : (ms : Members A) → Full ms → Conforms ms (filling Sequence ms)
   filling_conforms ms f = filled Sequence ms f tt

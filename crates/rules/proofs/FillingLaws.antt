@@ -2,21 +2,20 @@
 use Prim.Native.Nat.{ℕ, zero, suc, ◌≤◌}
 use native.Mathlib.Omega.{arith}
 use mathlib.Core.Path.{◌≡◌, refl, sym, ap, ap₂, ◌∙◌}
-use mathlib.Core.Logic.{◌⊎◌, inl, inr, ⊎_elim}
+use mathlib.Core.Logic.{◌⊎◌, inl, ⊎_elim}
 use mathlib.Core.Bool.{Bool, true, false, ◌||◌, false≢true}
 use mathlib.Core.Option.{Option, none, some}
 use mathlib.Core.List.Memᴰ
 use mathlib.Core.List.{List, [], ◌∷◌, ◌++◌, map, Memᴰ}
-use lib.Dec.{leb}
 use Rattle.rules.specs.declared.GroupKind.{GroupKind}
 use Rattle.rules.specs.declared.GroupKind.TheVariants.{Sequence, Choice}
 use Rattle.rules.specs.Bytes.{Bytes, bytes, same_refl, all}
-use Rattle.rules.specs.Model.{Members, done, el, group, names, Distinct, Full, skips, nothing, unless, is_done, beside, filling}
+use Rattle.rules.specs.Model.{Members, done, el, group, names, Distinct, Full, skips, nothing, unless, beside, filling}
 use Rattle.rules.specs.Automaton.{accepts}
 use Rattle.rules.specs.Store.{Content, empty, pcdata, complex, AttributeSort, implied, required, fixed, Attribute, Definition, Form, text, Row, Forest, bare, tree, model_of, members, ◌⧺◌, heads}
 use Rattle.rules.specs.WellFormed.{is_value, lookup, attribute_name}
 use Rattle.rules.specs.Conforming.{name_of, EveryRow, is_element, every_row, must_be_present, allows, strip, fits, fits_stripped, fits_definition, fits_row, conforming}
-use Rattle.rules.specs.Filling.{filled_rows, created_value, attribute_row, fill_attributes, fill_each, fill_content, element_row, fill_within}
+use Rattle.rules.specs.Filling.{created_value, attribute_row, fill_attributes, fill_each, fill_content, element_row, fill_within}
 use Rattle.rules.specs.Passing.{laid_row}
 use Rattle.rules.proofs.Words.{and_both, and_split}
 use Rattle.rules.proofs.Correct.{accepts_conforms}
@@ -28,27 +27,23 @@ use Rattle.rules.proofs.TestLaws.{all_test}
 
 -- ---- the names of a filling are names of its model
 module _ {A : Type 0} (x : A) where
-  in_beside : (rows : List A → ℕ) (k : GroupKind) (last : Bool) (u v : List A) → Memᴰ x (beside rows k last u v) → Memᴰ x u ⊎ Memᴰ x v
-  in_beside rows Sequence last u v m = Memᴰ.append_cases u m
-  in_beside rows Choice last u v m = by (last || leb (rows u) (rows v)) m
-    where
-      by : (c : Bool) → Memᴰ x (elim c [ true ↦ u | false ↦ v ]) → Memᴰ x u ⊎ Memᴰ x v
-      by true i = inl i
-      by false i = inr i
+  in_beside : (k : GroupKind) (u v : List A) → Memᴰ x (beside k u v) → Memᴰ x u ⊎ Memᴰ x v
+  in_beside Sequence u v m = Memᴰ.append_cases u m
+  in_beside Choice u v m = inl m
 
-  pub in_unless : (b : Bool) (w : List A) → Memᴰ x (unless b w) → Memᴰ x w
+  in_unless : (b : Bool) (w : List A) → Memᴰ x (unless b w) → Memᴰ x w
   in_unless true w m = absurd (Memᴰ.not-nil m)
   in_unless false w m = m
 
-  pub in_filling : (rows : List A → ℕ) (k : GroupKind) (ms : Members A) → Memᴰ x (filling rows k ms) → Memᴰ x (names ms)
+  pub in_filling : (k : GroupKind) (ms : Members A) → Memᴰ x (filling k ms) → Memᴰ x (names ms)
   unfolding filling names
-  in_filling rows k done m = m
-  in_filling rows k (el q n rest) m =
-      ⊎_elim (λ i. Memᴰ.head (Memᴰ.eq_of_singleton (in_unless (skips q) (n ∷ []) i))) (λ i. Memᴰ.tail (in_filling rows k rest i))
-      (in_beside rows k (is_done rest) (unless (skips q) (n ∷ [])) (filling rows k rest) m)
-  in_filling rows k (group q j ms rest) m =
-      ⊎_elim (λ i. Memᴰ.append_left (names rest) (in_filling rows j ms (in_unless (skips q || nothing j ms) (filling rows j ms) i))) (λ i. Memᴰ.append_right (names ms) (in_filling rows k rest i))
-      (in_beside rows k (is_done rest) (unless (skips q || nothing j ms) (filling rows j ms)) (filling rows k rest) m)
+  in_filling k done m = m
+  in_filling k (el q n rest) m =
+      ⊎_elim (λ i. Memᴰ.head (Memᴰ.eq_of_singleton (in_unless (skips q) (n ∷ []) i))) (λ i. Memᴰ.tail (in_filling k rest i))
+      (in_beside k (unless (skips q) (n ∷ [])) (filling k rest) m)
+  in_filling k (group q j ms rest) m =
+      ⊎_elim (λ i. Memᴰ.append_left (names rest) (in_filling j ms (in_unless (skips q || nothing j ms) (filling j ms) i))) (λ i. Memᴰ.append_right (names ms) (in_filling k rest i))
+      (in_beside k (unless (skips q || nothing j ms) (filling j ms)) (filling k rest) m)
 
 -- ---- what holds of every row
 module _ (P : Row → List Row → Type 0) where
@@ -78,7 +73,7 @@ text_row txt = record { serial = 0; sort = text; name = []; value = txt }
 
 -- the rows below its element
 abbrev pub fill_below : ℕ → ℕ → Form → Bytes → Definition → Forest Row
-fill_below version h form txt d = fill_attributes version d.attributes (fill_content (filled_rows version form) (λ m. fill_within version h form txt m) txt d.content)
+fill_below version h form txt d = fill_attributes version d.attributes (fill_content (λ m. fill_within version h form txt m) txt d.content)
 
 pub fill_known : (version h : ℕ) (form : Form) (txt n : Bytes) (d : Definition) → lookup n form ≡ some d
     → fill_within version (suc h) form txt n ≡ tree (element_row n) (fill_below version h form txt d) bare
@@ -90,7 +85,7 @@ unfolding fill_within
 fill_unknown version h form txt n q = rw (q, fill_within)
 
 -- a deep definition is there, and its members are deep
-pub deep_there : (h : ℕ) (form : Form) (n : Bytes) → deep (suc h) form n ≡ true → (d : Definition) × (lookup n form ≡ some d)
+deep_there : (h : ℕ) (form : Form) (n : Bytes) → deep (suc h) form n ≡ true → (d : Definition) × (lookup n form ≡ some d)
 unfolding deep
 deep_there h form n e = by (lookup n form) refl
   where
@@ -98,11 +93,11 @@ deep_there h form n e = by (lookup n form) refl
     by none q = absurd (false≢true (rw (q, deep) at e))
     by (some d) q = (d, q)
 
-pub deep_below : (h : ℕ) (form : Form) (n : Bytes) (d : Definition) → deep (suc h) form n ≡ true → lookup n form ≡ some d → (m : Bytes) → Memᴰ m (names (members d)) → deep h form m ≡ true
+deep_below : (h : ℕ) (form : Form) (n : Bytes) (d : Definition) → deep (suc h) form n ≡ true → lookup n form ≡ some d → (m : Bytes) → Memᴰ m (names (members d)) → deep h form m ≡ true
 unfolding deep
 deep_below h form n d e q = (all_test (λ m. deep h form m) (names (members d))).0 (rw (q, deep) at e)
 
-pub not_deep : (form : Form) (n : Bytes) → deep zero form n ≡ true → ⊥
+not_deep : (form : Form) (n : Bytes) → deep zero form n ≡ true → ⊥
 unfolding deep
 not_deep form n e = false≢true e
 
@@ -114,12 +109,11 @@ module _ (version : ℕ) (form : Form) (txt : Bytes) (P : Row → List Row → T
     (attributes : (n : Bytes) (d : Definition) → lookup n form ≡ some d → (a : Attribute) → Memᴰ a d.attributes → P (attribute_row a) [])
     (texts : P (text_row txt) []) where
   every_content : (h : ℕ) (c : Content) → ((m : Bytes) → Memᴰ m (names (model_of c)) → EveryRow P (fill_within version h form txt m))
-      → EveryRow P (fill_content (filled_rows version form) (λ m. fill_within version h form txt m) txt c)
+      → EveryRow P (fill_content (λ m. fill_within version h form txt m) txt c)
   unfolding fill_content
   every_content h empty f = tt
   every_content h pcdata f = (texts, tt, tt)
-  every_content h (complex ms) f = every_each P (λ m. fill_within version h form txt m) (filling (filled_rows version form) Sequence ms)
-      (λ m i. f m (in_filling m (filled_rows version form) Sequence ms i))
+  every_content h (complex ms) f = every_each P (λ m. fill_within version h form txt m) (filling Sequence ms) (λ m i. f m (in_filling m Sequence ms i))
 
   pub every_filled : (h : ℕ) (n : Bytes) → Q h n → EveryRow P (fill_within version h form txt n)
   unfolding fill_within
@@ -131,7 +125,7 @@ module _ (version : ℕ) (form : Form) (txt : Bytes) (P : Row → List Row → T
       by (some d) q f =
           rw (fill_known version h form txt n d q) (
             elements h n d x q,
-            every_attributes P version d.attributes (fill_content (filled_rows version form) (λ m. fill_within version h form txt m) txt d.content) (attributes n d q)
+            every_attributes P version d.attributes (fill_content (λ m. fill_within version h form txt m) txt d.content) (attributes n d q)
                 (every_content h d.content (λ m i. f m (down h n d x q m i))),
             tt,
           )
@@ -232,28 +226,25 @@ module _ (version : ℕ) (form : Form) (once : (n : Bytes) (d : Definition) → 
     (apart : (n : Bytes) (d : Definition) → lookup n form ≡ some d → Distinct (map attribute_name d.attributes))
     (groups : (n : Bytes) (d : Definition) → lookup n form ≡ some d → Full (members d)) (txt : Bytes) where
   content_fits : (h : ℕ) (c : Content) → Distinct (names (model_of c)) → Full (model_of c) → ((m : Bytes) → Memᴰ m (names (model_of c)) → deep h form m ≡ true)
-      → fits c (heads (fill_content (filled_rows version form) (λ m. fill_within version h form txt m) txt c)) ≡ true
+      → fits c (heads (fill_content (λ m. fill_within version h form txt m) txt c)) ≡ true
   unfolding fill_content
   content_fits h empty o g f = refl
   content_fits h pcdata o g f = refl
   content_fits h (complex ms) o g f =
-      and_both (each_elements version h form txt filled all_deep)
-      (ap (accepts bytes ms) (each_names version h form txt filled all_deep) ∙ (accepts_conforms bytes ms o filled).1 (filling-in-language (filled_rows version form) ms g))
+      and_both (each_elements version h form txt (filling Sequence ms) all_deep)
+      (ap (accepts bytes ms) (each_names version h form txt (filling Sequence ms) all_deep) ∙ (accepts_conforms bytes ms o (filling Sequence ms)).1 (filling-in-language ms g))
     where
-      filled : List Bytes
-      filled = filling (filled_rows version form) Sequence ms
-
-      all_deep : all (λ m. deep h form m) filled ≡ true
-      all_deep = (all_test (λ m. deep h form m) filled).1 (λ m i. f m (in_filling m (filled_rows version form) Sequence ms i))
+      all_deep : all (λ m. deep h form m) (filling Sequence ms) ≡ true
+      all_deep = (all_test (λ m. deep h form m) (filling Sequence ms)).1 (λ m i. f m (in_filling m Sequence ms i))
 
   definition_fits_lem : (h : ℕ) (d : Definition) → Distinct (names (members d)) → Distinct (map attribute_name d.attributes)
-      → fits d.content (heads (fill_content (filled_rows version form) (λ m. fill_within version h form txt m) txt d.content)) ≡ true
+      → fits d.content (heads (fill_content (λ m. fill_within version h form txt m) txt d.content)) ≡ true
       → fits_definition version (some d) (heads (fill_below version h form txt d)) ≡ true
   definition_fits_lem h d o p f =
       ap (fits_stripped d.content) (strip_fill version d.attributes content p (content_head d.content (heads content) ((content_is d.content o (heads content)).0 f))) ∙ f
     where
       content : Forest Row
-      content = fill_content (filled_rows version form) (λ m. fill_within version h form txt m) txt d.content
+      content = fill_content (λ m. fill_within version h form txt m) txt d.content
 
   element_fits_lem : (h : ℕ) (n : Bytes) (d : Definition) → deep (suc h) form n ≡ true → lookup n form ≡ some d → fits_row version form (element_row n) (heads (fill_below version h form txt d)) ≡ true
   unfolding fits_row
@@ -288,12 +279,11 @@ module _ (f g : Bytes → Forest Row) where
   each_same [] x = refl
   each_same (n ∷ ns) x = ap₂ (λ (u v : Forest Row). u ⧺ v) (x n (Memᴰ.head refl)) (each_same ns (λ m i. x m (Memᴰ.tail i)))
 
-  content_same : (rows : List Bytes → ℕ) (txt : Bytes) (c : Content) → ((m : Bytes) → Memᴰ m (names (model_of c)) → f m ≡ g m)
-      → fill_content rows f txt c ≡ fill_content rows g txt c
+  content_same : (txt : Bytes) (c : Content) → ((m : Bytes) → Memᴰ m (names (model_of c)) → f m ≡ g m) → fill_content f txt c ≡ fill_content g txt c
   unfolding fill_content
-  content_same rows txt empty x = refl
-  content_same rows txt pcdata x = refl
-  content_same rows txt (complex ms) x = each_same (filling rows Sequence ms) (λ m i. x m (in_filling m rows Sequence ms i))
+  content_same txt empty x = refl
+  content_same txt pcdata x = refl
+  content_same txt (complex ms) x = each_same (filling Sequence ms) (λ m i. x m (in_filling m Sequence ms i))
 
 pub fill_more : (version h k : ℕ) (form : Form) (txt n : Bytes) → h ≤ k → deep h form n ≡ true → fill_within version k form txt n ≡ fill_within version h form txt n
 fill_more version zero k form txt n l e = absurd (not_deep form n e)
@@ -305,6 +295,5 @@ fill_more version (suc h) (suc k) form txt n l e = by (deep_there h form n e) (f
     by (d, q) x =
         fill_known version k form txt n d q
         ∙ ap (λ (z : Forest Row). tree (element_row n) (fill_attributes version d.attributes z) bare)
-        (content_same (λ m. fill_within version k form txt m) (λ m. fill_within version h form txt m) (filled_rows version form) txt d.content
-        (λ m i. x m (omega arith) (deep_below h form n d e q m i)))
+        (content_same (λ m. fill_within version k form txt m) (λ m. fill_within version h form txt m) txt d.content (λ m i. x m (omega arith) (deep_below h form n d e q m i)))
         ∙ sym (fill_known version h form txt n d q)

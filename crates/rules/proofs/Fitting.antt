@@ -96,8 +96,7 @@ module _ {A : Type 0} (E : Equality A) (c : Context A) (s : spine c ≡ true) wh
         by p = open_mid p (unfold Matches in p.mid_is)
 
   -- 8: A GROUP'S QUANTIFIER ON THE SPINE, all pairs that do not cut
-  module _ (q r : Quantifier) (j : GroupKind) (ms t : Members A) (d : Distinct (names (plug c (group q j ms t)))) (full : Full ms) (some : Some ms) (uncut : cuts q r ≡ false)
-      (rows : List A → ℕ) where
+  module _ (q r : Quantifier) (j : GroupKind) (ms t : Members A) (d : Distinct (names (plug c (group q j ms t)))) (full : Full ms) (some : Some ms) (uncut : cuts q r ≡ false) where
     regroup : (u g v z : List A) → Repeated r (Matches j ms) g → Conforms (ahead c) u → Conforms t v → Conforms (behind c) z → Conforms (plug c (group r j ms t)) (u ++ ((g ++ v) ++ z))
     unfolding Matches
     regroup u g v z b l m h = put c (group r j ms t) s u (g ++ v) z l (g, v, refl, b, m) h
@@ -127,17 +126,17 @@ module _ {A : Type 0} (E : Equality A) (c : Context A) (s : spine c ≡ true) wh
 
     -- none does: the filling comes
     gain_none : (w : List A) (p : Split c (group q j ms t) w) (g v : List A) → g ++ v ≡ p.mid → ((y : A) → Memᴰ y g → Memᴰ y (names ms)) → Conforms t v → any_of E (names ms) w ≡ false
-        → Conforms (plug c (group r j ms t)) (placed E (before_place c) (unless (skips r || nothing j ms) (filling rows j ms)) w)
+        → Conforms (plug c (group r j ms t)) (placed E (before_place c) (unless (skips r || nothing j ms) (filling j ms)) w)
     unfolding names
     gain_none w p [] v e l m o =
-        let F : List A = unless (skips r || nothing j ms) (filling rows j ms) in
+        let F : List A = unless (skips r || nothing j ms) (filling j ms) in
         let f : p.left ++ (v ++ p.right) ≡ w = cc p.whole in
         let a : placed E (before_place c) F w ≡ p.left ++ (F ++ (v ++ p.right)) =
         ap (placed E (before_place c) F) (sym f)
         ∙ placed_at E (before_place c) F p.left (v ++ p.right) p.left_in
         (later c (group q j ms t) w p v p.right (λ y h. Memᴰ.append_right (names ms) ((letters Sequence t).inside v m y h)) p.right_in) in
         let b : placed E (before_place c) F w ≡ p.left ++ ((F ++ v) ++ p.right) = a ∙ ap (λ (z : List A). p.left ++ z) (sym (append_assoc F v p.right)) in
-        rw b (regroup p.left F v p.right (fill_group rows r j ms full some) p.ahead_is m p.behind_is)
+        rw b (regroup p.left F v p.right (fill_group r j ms full some) p.ahead_is m p.behind_is)
     gain_none w p (y ∷ g) v e l m o =
         let f : p.left ++ (((y ∷ g) ++ v) ++ p.right) ≡ w = cc p.whole in
         let a : any_of E (names ms) w ≡ true =
@@ -157,15 +156,15 @@ module _ {A : Type 0} (E : Equality A) (c : Context A) (s : spine c ≡ true) wh
         allow (suc l) b = stays_some q r l uncut b
 
     gained : (w : List A) (p : Split c (group q j ms t) w) → Then (Repeated q (Matches j ms)) (Conforms t) p.mid → (b : Bool) → any_of E (names ms) w ≡ b → (a : Bool) → gains q r ≡ a
-        → Conforms (plug c (group r j ms t)) (refit_group rows E (before_place c) q r j ms w)
+        → Conforms (plug c (group r j ms t)) (refit_group E (before_place c) q r j ms w)
     unfolding refit_group
     gained w p (g, v, e, (n, a, i), m) true o true k = rw (k, refit_group) (rw o (gain_some w p g v e n a i m o))
     gained w p (g, v, e, (n, a, i), m) false o true k = rw (k, refit_group) (rw o (gain_none w p g v e ((letters_repeated q j ms).inside g (n, a, i)) m o))
     gained w p (g, v, e, (n, a, i), m) true o false k = rw (k, refit_group) (stay w p g v e n a i m k)
     gained w p (g, v, e, (n, a, i), m) false o false k = rw (k, refit_group) (stay w p g v e n a i m k)
 
-    pub refit_group_lem : (w : List A) → Conforms (plug c (group q j ms t)) w → Conforms (plug c (group r j ms t)) (refit_group rows E (before_place c) q r j ms w)
+    pub refit_group_lem : (w : List A) → Conforms (plug c (group q j ms t)) w → Conforms (plug c (group r j ms t)) (refit_group E (before_place c) q r j ms w)
     refit_group_lem w m = by (split c (group q j ms t) s d w m)
       where
-        by : Split c (group q j ms t) w → Conforms (plug c (group r j ms t)) (refit_group rows E (before_place c) q r j ms w)
+        by : Split c (group q j ms t) w → Conforms (plug c (group r j ms t)) (refit_group E (before_place c) q r j ms w)
         by p = gained w p (unfold Matches in p.mid_is) (any_of E (names ms) w) refl (gains q r) refl

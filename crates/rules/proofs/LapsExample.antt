@@ -171,7 +171,7 @@ pub record Laps : Type 0 where
   pub rows : rows_in (read_store made.store) ≡ 1 ∷ 3 ∷ 4 ∷ 5 ∷ 6 ∷ 7 ∷ 8 ∷ 9 ∷ 2 ∷ 10 ∷ []
   pub lines_cut : serials_of (untaken cut.book.entries) ≡ 1 ∷ 3 ∷ 4 ∷ 5 ∷ 9 ∷ 2 ∷ 11 ∷ 12 ∷ 13 ∷ 10 ∷ []
   pub taken_cut : taken_of cut.book.entries ≡ 6 ∷ 7 ∷ 8 ∷ []
-  pub rows_cut_lem : rows_in (read_store cut.store) ≡ 1 ∷ 3 ∷ 4 ∷ 5 ∷ 9 ∷ 2 ∷ 11 ∷ 12 ∷ 13 ∷ 10 ∷ []
+  pub rows_cut : rows_in (read_store cut.store) ≡ 1 ∷ 3 ∷ 4 ∷ 5 ∷ 9 ∷ 2 ∷ 11 ∷ 12 ∷ 13 ∷ 10 ∷ []
   -- the refused calls leave all as it was
   pub lines_end : serials_of (untaken end.book.entries) ≡ 1 ∷ 3 ∷ 4 ∷ 5 ∷ 9 ∷ 2 ∷ 11 ∷ 12 ∷ 13 ∷ 10 ∷ []
   pub next_book : end.book.next ≡ 14
@@ -191,7 +191,7 @@ laps_end =
       rows = refl;
       lines_cut = refl;
       taken_cut = refl;
-      rows_cut_lem = refl;
+      rows_cut = refl;
       lines_end = refl;
       next_book = refl;
       next_store = refl;

@@ -1,4 +1,3 @@
-pub mod Alternatives
 pub mod Children
 pub mod ChildRows
 pub mod Words
@@ -33,9 +32,7 @@ pub mod WellFormedLaws
 pub mod SerialLaws
 pub mod ConformingLaws
 pub mod FillingLaws
-pub mod SizeLaws
 pub mod Examples
-pub mod SmallestExamples
 pub mod Clubform
 pub mod LapsExample
 pub mod PassingLaws

@@ -108,7 +108,7 @@ module _ {A : Type 0} where
   convert_names c j s r = same_names c (s ⊕ r) (group None j s r) (names_append s r)
 
   -- ---- inner groups not empty
-  pub some_done : (t : Members A) → is_done t ≡ false → Some t
+  some_done : (t : Members A) → is_done t ≡ false → Some t
   some_done done e = false≢true (sym e)
   some_done (el q n t) e = tt
   some_done (group q k ms t) e = tt

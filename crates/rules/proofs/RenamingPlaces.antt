@@ -1,12 +1,10 @@
 -- Names for indices: places, fillings and what is asked of them stay.
-use Prim.Native.Nat.{ℕ, ◌+◌}
 use mathlib.Core.Path.{◌≡◌, refl, sym, ap, ◌∙◌}
 use mathlib.Core.Bool.{Bool, true, false, ◌||◌}
 use mathlib.Core.List.{List, [], ◌∷◌, map, map-append}
-use lib.Dec.{leb}
 use Rattle.rules.specs.declared.GroupKind.{GroupKind}
 use Rattle.rules.specs.declared.GroupKind.TheVariants.{Sequence, Choice}
-use Rattle.rules.specs.Model.{Members, done, el, group, names, nothing, rename, total_size, is_done, filling, beside, unless, skips}
+use Rattle.rules.specs.Model.{Members, done, el, group, names, nothing, rename, filling, beside, unless, skips}
 use Rattle.rules.specs.Place.{Context, here, past, over, into, plug, spine, before_place, rename_around}
 use Rattle.rules.proofs.AroundLaws.{leaves}
 
@@ -27,42 +25,17 @@ module _ {A B : Type 0} (f : A → B) where
   unless_map true w = refl
   unless_map false w = refl
 
-  pub done_rename : (ms : Members A) → is_done (rename f ms) ≡ is_done ms
-  unfolding rename
-  done_rename done = refl
-  done_rename (el q n rest) = refl
-  done_rename (group q j ms rest) = refl
+  beside_map : (k : GroupKind) (u v : List A) → beside k (map f u) (map f v) ≡ map f (beside k u v)
+  beside_map Sequence u v = sym (map-append f u v)
+  beside_map Choice u v = refl
 
-  -- how many rows names have, by the indices
-  pub rows_map : (size : B → ℕ) (ns : List A) → total_size size (map f ns) ≡ total_size (λ n. size (f n)) ns
-  unfolding total_size
-  rows_map size [] = refl
-  rows_map size (n ∷ ns) = ap (λ (z : ℕ). size (f n) + z) (rows_map size ns)
-
-  -- the fillings of the indices have the rows of the names'
-  module _ (rows : List B → ℕ) where
-    beside_map : (k : GroupKind) (last : Bool) (u v : List A) → beside rows k last (map f u) (map f v) ≡ map f (beside (λ ns. rows (map f ns)) k last u v)
-    beside_map Sequence last u v = sym (map-append f u v)
-    beside_map Choice last u v = by (last || leb (rows (map f u)) (rows (map f v)))
-      where
-        by : (c : Bool) → elim c as (λ z. List B) [ true ↦ map f u | false ↦ map f v ] ≡ map f (elim c as (λ z. List A) [ true ↦ u | false ↦ v ])
-        by true = refl
-        by false = refl
-
-    beside_rename : (k : GroupKind) (rest : Members A) (x y : List B) (u v : List A) → x ≡ map f u → y ≡ map f v
-        → beside rows k (is_done (rename f rest)) x y ≡ map f (beside (λ ns. rows (map f ns)) k (is_done rest) u v)
-    beside_rename k rest x y u v e g = rw (done_rename rest, e, g) (beside_map k (is_done rest) u v)
-
-    pub filling_rename : (k : GroupKind) (ms : Members A) → filling rows k (rename f ms) ≡ map f (filling (λ ns. rows (map f ns)) k ms)
-    unfolding filling rename
-    filling_rename k done = refl
-    filling_rename k (el q n rest) =
-        beside_rename k rest (unless (skips q) (f n ∷ [])) (filling rows k (rename f rest)) (unless (skips q) (n ∷ [])) (filling (λ ns. rows (map f ns)) k rest)
-        (unless_map (skips q) (n ∷ [])) (filling_rename k rest)
-    filling_rename k (group q j ms rest) =
-        beside_rename k rest (unless (skips q || nothing j (rename f ms)) (filling rows j (rename f ms))) (filling rows k (rename f rest))
-        (unless (skips q || nothing j ms) (filling (λ ns. rows (map f ns)) j ms)) (filling (λ ns. rows (map f ns)) k rest)
-        (rw (nothing_rename j ms, filling_rename j ms) (unless_map (skips q || nothing j ms) (filling (λ ns. rows (map f ns)) j ms))) (filling_rename k rest)
+  pub filling_rename : (k : GroupKind) (ms : Members A) → filling k (rename f ms) ≡ map f (filling k ms)
+  unfolding filling rename
+  filling_rename k done = refl
+  filling_rename k (el q n rest) = rw (filling_rename k rest, unless_map (skips q) (n ∷ [])) (beside_map k (unless (skips q) (n ∷ [])) (filling k rest))
+  filling_rename k (group q j ms rest) =
+      rw (nothing_rename j ms, filling_rename j ms, filling_rename k rest, unless_map (skips q || nothing j ms) (filling j ms))
+      (beside_map k (unless (skips q || nothing j ms) (filling j ms)) (filling k rest))
 
   pub plug_rename : (c : Context A) (t : Members A) → rename f (plug c t) ≡ plug (rename_around f c) (rename f t)
   unfolding plug rename rename_around

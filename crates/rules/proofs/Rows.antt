@@ -1,5 +1,4 @@
 -- The names of the edited rows are the edited names.
-use Prim.Native.Nat.{ℕ}
 use mathlib.Core.Path.{◌≡◌, refl, ap, ◌∙◌}
 use mathlib.Core.Bool.{Bool, true, false, not, ◌&&◌, ◌||◌}
 use mathlib.Core.List.{List, [], ◌∷◌, map, map-append}
@@ -42,21 +41,19 @@ module _ {A R : Type 0} (name : R → A) where
       refit_rows_lem ns x q r rs =
           map_if (member E x (map name rs)) _ _ _ _ (map_if (cuts q r) _ _ _ _ (first_rows_lem x rs) refl) (map_if (gains q r) _ _ _ _ (place_fill ns (x ∷ []) rs) refl)
 
-      module _ (rows : List A → ℕ) where
-        refit_group_rows_lem : (ns : List A) (q r : Quantifier) (j : GroupKind) (ms : Members A) (rs : List R)
-            → map name (refit_group_rows E name fill rows ns q r j ms rs) ≡ refit_group rows E ns q r j ms (map name rs)
-        unfolding refit_group_rows refit_group
-        refit_group_rows_lem ns q r j ms rs =
-            map_if (gains q r) _ _ _ _ (map_if (any_of E (names ms) (map name rs)) _ _ _ _ refl (place_fill ns (unless (skips r || nothing j ms) (filling rows j ms)) rs)) refl
+      refit_group_rows_lem : (ns : List A) (q r : Quantifier) (j : GroupKind) (ms : Members A) (rs : List R) → map name (refit_group_rows E name fill ns q r j ms rs) ≡ refit_group E ns q r j ms (map name rs)
+      unfolding refit_group_rows refit_group
+      refit_group_rows_lem ns q r j ms rs =
+          map_if (gains q r) _ _ _ _ (map_if (any_of E (names ms) (map name rs)) _ _ _ _ refl (place_fill ns (unless (skips r || nothing j ms) (filling j ms)) rs)) refl
 
-        pub child_rows_lem : (e : Edit A) (c : Context A) (t : Members A) (rs : List R) → map name (child_rows E name fill rows e c t rs) ≡ children rows E e c t (map name rs)
-        unfolding child_rows children
-        child_rows_lem (insert q n) c t rs = map_if (not (skips q) && spine c) _ _ _ _ (place_fill (before_place c) (n ∷ []) rs) refl
-        child_rows_lem remove c done rs = refl
-        child_rows_lem remove c (el q x t) rs = erase_rows_lem x rs
-        child_rows_lem remove c (group q k ms t) rs = refl
-        child_rows_lem (quantify r) c done rs = refl
-        child_rows_lem (quantify r) c (el q x t) rs = map_if (spine c) _ _ _ _ (refit_rows_lem (before_place c) x q r rs) refl
-        child_rows_lem (quantify r) c (group q k ms t) rs = map_if (spine c) _ _ _ _ (refit_group_rows_lem (before_place c) q r k ms rs) refl
-        child_rows_lem (convert j n) c t rs = refl
-        child_rows_lem flatten c t rs = refl
+      pub child_rows_lem : (e : Edit A) (c : Context A) (t : Members A) (rs : List R) → map name (child_rows E name fill e c t rs) ≡ children E e c t (map name rs)
+      unfolding child_rows children
+      child_rows_lem (insert q n) c t rs = map_if (not (skips q) && spine c) _ _ _ _ (place_fill (before_place c) (n ∷ []) rs) refl
+      child_rows_lem remove c done rs = refl
+      child_rows_lem remove c (el q x t) rs = erase_rows_lem x rs
+      child_rows_lem remove c (group q k ms t) rs = refl
+      child_rows_lem (quantify r) c done rs = refl
+      child_rows_lem (quantify r) c (el q x t) rs = map_if (spine c) _ _ _ _ (refit_rows_lem (before_place c) x q r rs) refl
+      child_rows_lem (quantify r) c (group q k ms t) rs = map_if (spine c) _ _ _ _ (refit_group_rows_lem (before_place c) q r k ms rs) refl
+      child_rows_lem (convert j n) c t rs = refl
+      child_rows_lem flatten c t rs = refl

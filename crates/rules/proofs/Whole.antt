@@ -114,23 +114,23 @@ module _ {A : Type 0} where
         let e : q ≡ None = once_one q (or_split (not (is_one q)) (group_unlike c j l) m).0 in
         flatten_sound c j l t (rw e at s)
 
-    pub edit_conforms : (rows : List A → ℕ) (e : Edit A) (t : Members A) → misplaced E e c t ≡ false → unfit e c t ≡ false → Sound (plug c t) → (w : List A) → Conforms (plug c t) w
-        → Conforms (plug c (edited e t)) (children rows E e c t w)
+    pub edit_conforms : (e : Edit A) (t : Members A) → misplaced E e c t ≡ false → unfit e c t ≡ false → Sound (plug c t) → (w : List A) → Conforms (plug c t) w
+        → Conforms (plug c (edited e t)) (children E e c t w)
     unfolding misplaced edited unfit children
-    edit_conforms rows (insert q n) t m u s w h = insert_conforms E c q n t s.distinct u w h
-    edit_conforms rows remove done m u s w h = h
-    edit_conforms rows remove (el q x t) m u s w h = remove_conforms E c q x t s.distinct u w h
-    edit_conforms rows remove (group q k ms t) m u s w h = h
-    edit_conforms rows (quantify r) done m u s w h = h
-    edit_conforms rows (quantify r) (el q x t) m u s w h = quantify_conforms E c q r x t s.distinct u w h
-    edit_conforms rows (quantify r) (group q k ms t) m u s w h =
+    edit_conforms (insert q n) t m u s w h = insert_conforms E c q n t s.distinct u w h
+    edit_conforms remove done m u s w h = h
+    edit_conforms remove (el q x t) m u s w h = remove_conforms E c q x t s.distinct u w h
+    edit_conforms remove (group q k ms t) m u s w h = h
+    edit_conforms (quantify r) done m u s w h = h
+    edit_conforms (quantify r) (el q x t) m u s w h = quantify_conforms E c q r x t s.distinct u w h
+    edit_conforms (quantify r) (group q k ms t) m u s w h =
         let (o, f, g) = inside_group c q k ms t s.full in
-        group_conforms E c rows q r k ms t s.distinct f o u w h
-    edit_conforms rows (convert j n) t m u s w h =
+        group_conforms E c q r k ms t s.distinct f o u w h
+    edit_conforms (convert j n) t m u s w h =
         (convert_conforms E c j (first_members n t) (later_members n t) (or_split (not (has_members n t)) (group_unlike c j (first_members n t)) m).1).to.carry w (rw (first_later n t) h)
-    edit_conforms rows flatten done m u s w h = h
-    edit_conforms rows flatten (el q x t) m u s w h = h
-    edit_conforms rows flatten (group q j l t) m u s w h =
+    edit_conforms flatten done m u s w h = h
+    edit_conforms flatten (el q x t) m u s w h = h
+    edit_conforms flatten (group q j l t) m u s w h =
         let e : q ≡ None = once_one q (or_split (not (is_one q)) (group_unlike c j l) m).0 in
         (convert_conforms E c j l t (or_split (not (is_one q)) (group_unlike c j l) m).1).from.carry w (rw e at h)
 
@@ -150,8 +150,7 @@ module _ {A : Type 0} where
     pub change_sound : Sound (model_after e f)
     change_sound = edit_sound E f.context e f.picked fits before_sound
 
-    pub change_accepts : (rows : List A → ℕ) → unfit e f.context f.picked ≡ false → (w : List A) → accepts E ms w ≡ true
-        → accepts E (model_after e f) (children rows E e f.context f.picked w) ≡ true
-    change_accepts rows u w a =
-        accepts_carried E ms (model_after e f) sound.distinct change_sound.distinct w (children rows E e f.context f.picked w)
-        (λ h. edit_conforms E f.context rows e f.picked fits u before_sound w (rw (placed_right e p ms f at) h)) a
+    pub change_accepts : unfit e f.context f.picked ≡ false → (w : List A) → accepts E ms w ≡ true → accepts E (model_after e f) (children E e f.context f.picked w) ≡ true
+    change_accepts u w a =
+        accepts_carried E ms (model_after e f) sound.distinct change_sound.distinct w (children E e f.context f.picked w)
+        (λ h. edit_conforms E f.context e f.picked fits u before_sound w (rw (placed_right e p ms f at) h)) a

@@ -13,7 +13,7 @@ use Rattle.rules.specs.Layout.{index_of}
 use Rattle.rules.specs.Decode.{quantifier_of, group_of, content_of, sort_of}
 use Rattle.rules.specs.WellFormed.{attribute_name}
 use Rattle.rules.specs.Conforming.{is_element, is_attribute, must_be_present}
-use Rattle.rules.specs.Filling.{filled_rows, attribute_row, fill_each, fill_definition}
+use Rattle.rules.specs.Filling.{attribute_row, fill_each, fill_definition}
 use Rattle.rules.specs.Lines.{Line, lines, ground, is_ground, is_element_row, is_text_row, element_named, element_among, attribute_named, element_with, children_of, serial_at}
 
 -- the calls, in the paper's order, with their arguments in the order of the public functions
@@ -178,8 +178,8 @@ remove_plan owner (el q x rest) = taking (λ u r. element_named owner u && eleme
 remove_plan owner (group q k ms rest) = keeping
 
 -- the names that a group fills with under a quantifier
-abbrev pub group_filling : ℕ → Form → Quantifier → GroupKind → Members Bytes → List Bytes
-group_filling version form q k ms = unless (skips q || nothing k ms) (filling (filled_rows version form) k ms)
+abbrev pub group_filling : Quantifier → GroupKind → Members Bytes → List Bytes
+group_filling q k ms = unless (skips q || nothing k ms) (filling k ms)
 
 -- the first child named x of the row u
 abbrev pub first_child : Bytes → Row → List Line → ℕ
@@ -203,7 +203,7 @@ quantify_plan version form ls owner txt new c (el old x rest) =
     }
 quantify_plan version form ls owner txt new c (group old k ms rest) =
     making (λ r. (spine c && gains old new) && (element_named owner r && lacks (element_among (names ms)) r ls)) (later_than (before_place c))
-    (fill_each (λ n. fill_definition version form txt n) (group_filling version form new k ms))
+    (fill_each (λ n. fill_definition version form txt n) (group_filling new k ms))
 
 abbrev pub picked_plan : (Context Bytes → Members Bytes → Plan) → Option (Found Bytes) → Plan
 picked_plan f none = keeping

@@ -1,39 +1,13 @@
 -- 'Filling': the rows that a change makes for a definition, without serials.
-use Rattle.std.specs.Prelude.{ℕ, zero, suc, ◌+◌, true, false, List, [], ◌∷◌, length}
+use Rattle.std.specs.Prelude.{ℕ, zero, suc, true, false, List, [], ◌∷◌, length}
 use Rattle.std.proofs.Math.Option.{none, some}
 use Rattle.rules.specs.declared.GroupKind.TheVariants.{Sequence}
 use Rattle.rules.specs.Bytes.{Bytes}
-use Rattle.rules.specs.Model.{total_size, filling}
+use Rattle.rules.specs.Model.{filling}
 use Rattle.rules.specs.Store.{Content, empty, pcdata, complex, AttributeSort, Attribute, Form, element, attribute, text, Row, Forest, bare, tree, ◌⧺◌}
 use Rattle.rules.specs.WellFormed.{lookup}
 use Rattle.rules.specs.Conforming.{must_be_present}
 
--- ---- how many rows a filling has: 'the fewest rows' of paper 02, W4, is said by these numbers
--- 'its REQUIRED attributes'
-unfoldable pub attributes_size : ℕ → List Attribute → ℕ
-attributes_size version [] = 0
-attributes_size version (a ∷ table) = elim (must_be_present version a.sort) [ true ↦ suc (attributes_size version table) | false ↦ attributes_size version table ]
-
--- 'then (PCDATA) a text row, or (COMPLEX) the filling of the top list'; `size` is that of a definition
-unfoldable pub content_size : (Bytes → ℕ) → Content → ℕ
-content_size size empty = 0
-content_size size pcdata = 1
-content_size size (complex ms) = total_size size (filling (total_size size) Sequence ms)
-
--- the filling of a definition of at most this height: 'an element row, its attributes, then' what stands below it
-unfoldable pub size_within : ℕ → ℕ → Form → Bytes → ℕ
-size_within version zero form n = 0
-size_within version (suc h) form n = elim (lookup n form) [ none ↦ 0 | some d ↦ suc (attributes_size version d.attributes + content_size (λ m. size_within version h form m) d.content) ]
-
--- no definition is higher than the form has definitions
-abbrev pub filling_size : ℕ → Form → Bytes → ℕ
-filling_size version form n = size_within version (length form) form n
-
--- the fillings of some definitions
-abbrev pub filled_rows : ℕ → Form → List Bytes → ℕ
-filled_rows version form ns = total_size (λ n. filling_size version form n) ns
-
--- ---- its rows
 -- the value of a created row, of an attribute of this sort with this fill
 abbrev pub created_value : AttributeSort → Bytes → Bytes
 created_value sort fill = fill
@@ -55,12 +29,11 @@ unfoldable pub fill_each : (Bytes → Forest Row) → List Bytes → Forest Row
 fill_each fill [] = bare
 fill_each fill (n ∷ ns) = fill n ⧺ fill_each fill ns
 
--- 'then (PCDATA) a text row with the call's text, or (COMPLEX) the filling of the top list'; `rows` are how many the
--- fillings of some definitions have
-unfoldable pub fill_content : (List Bytes → ℕ) → (Bytes → Forest Row) → Bytes → Content → Forest Row
-fill_content rows fill txt empty = bare
-fill_content rows fill txt pcdata = tree (record { serial = 0; sort = text; name = []; value = txt }) bare bare
-fill_content rows fill txt (complex ms) = fill_each fill (filling rows Sequence ms)
+-- 'then (PCDATA) a text row with the call's text, or (COMPLEX) the filling of the top list'
+unfoldable pub fill_content : (Bytes → Forest Row) → Bytes → Content → Forest Row
+fill_content fill txt empty = bare
+fill_content fill txt pcdata = tree (record { serial = 0; sort = text; name = []; value = txt }) bare bare
+fill_content fill txt (complex ms) = fill_each fill (filling Sequence ms)
 
 abbrev pub element_row : Bytes → Row
 element_row n = record { serial = 0; sort = element; name = n; value = [] }
@@ -71,7 +44,7 @@ fill_within version zero form txt n = bare
 fill_within version (suc h) form txt n =
     elim (lookup n form) [
       | none ↦ bare
-      | some d ↦ tree (element_row n) (fill_attributes version d.attributes (fill_content (filled_rows version form) (λ m. fill_within version h form txt m) txt d.content)) bare
+      | some d ↦ tree (element_row n) (fill_attributes version d.attributes (fill_content (λ m. fill_within version h form txt m) txt d.content)) bare
     ]
 
 -- no definition is higher than the form has definitions

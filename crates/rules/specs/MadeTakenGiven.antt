@@ -176,7 +176,7 @@ one_attribute n v = tree (record { serial = 0; sort = attribute; name = n; value
 abbrev pub filling_of : ℕ → Form → Bytes → Quantifier → Members Bytes → Forest Row
 filling_of version form t new done = bare
 filling_of version form t new (el q x rest) = fill_definition version form t x
-filling_of version form t new (group q k ms rest) = fill_each (λ n. fill_definition version form t n) (group_filling version form new k ms)
+filling_of version form t new (group q k ms rest) = fill_each (λ n. fill_definition version form t n) (group_filling new k ms)
 
 -- the same at the place found
 abbrev pub filling_at : ℕ → Form → Bytes → Quantifier → Option (Found Bytes) → Forest Row

@@ -1,5 +1,5 @@
 -- Content models: members with their quantifiers, over any type of names.
-use Rattle.std.specs.Prelude.{ℕ, ◌+◌, ◌≡◌, Bool, true, false, not, ◌&&◌, ◌||◌, leb}
+use Rattle.std.specs.Prelude.{◌≡◌, Bool, true, false, not, ◌&&◌, ◌||◌}
 use mathlib.Core.List.{List, [], ◌∷◌, ◌++◌, Memᴰ}
 use Rattle.rules.specs.declared.Quantifier.{Quantifier}
 use Rattle.rules.specs.declared.Quantifier.TheVariants.{None, Qmark, Star, Plus}
@@ -56,32 +56,19 @@ abbrev pub unless : {A : Type 0} → Bool → List A → List A
 unless true w = []
 unless false w = w
 
--- how many rows the fillings of some definitions have, by how many that of each has
-unfoldable pub total_size : {A : Type 0} → (A → ℕ) → List A → ℕ
-total_size size [] = 0
-total_size size (n ∷ ns) = size n + total_size size ns
+-- of the fillings of a CHOICE's first member and of the others: the first's
+abbrev pub chosen : {A : Type 0} → List A → List A → List A
+chosen first others = first
 
--- no member
-abbrev pub is_done : {A : Type 0} → Members A → Bool
-is_done done = true
-is_done (el q n rest) = false
-is_done (group q k ms rest) = false
+abbrev pub beside : {A : Type 0} → GroupKind → List A → List A → List A
+beside Sequence u v = u ++ v
+beside Choice u v = chosen u v
 
--- 'the member with the fewest rows, the earlier one among equals' (paper 02, W4): of the fillings of a CHOICE's first
--- member and of the others the first's, if it is the last member or has no more rows. `rows`: how many rows the
--- fillings of some definitions have.
-abbrev pub chosen : {A : Type 0} → (List A → ℕ) → Bool → List A → List A → List A
-chosen rows last first others = elim (last || leb (rows first) (rows others)) [ true ↦ first | false ↦ others ]
-
-abbrev pub beside : {A : Type 0} → (List A → ℕ) → GroupKind → Bool → List A → List A → List A
-beside rows Sequence last u v = u ++ v
-beside rows Choice last u v = chosen rows last u v
-
--- the names of a filling: all members' in a LIST, the chosen member's in a CHOICE
-unfoldable pub filling : {A : Type 0} → (List A → ℕ) → GroupKind → Members A → List A
-filling rows k done = []
-filling rows k (el q n rest) = beside rows k (is_done rest) (unless (skips q) (n ∷ [])) (filling rows k rest)
-filling rows k (group q j ms rest) = beside rows k (is_done rest) (unless (skips q || nothing j ms) (filling rows j ms)) (filling rows k rest)
+-- the names of a filling: all members' in a LIST, the first member's in a CHOICE
+unfoldable pub filling : {A : Type 0} → GroupKind → Members A → List A
+filling k done = []
+filling k (el q n rest) = beside k (unless (skips q) (n ∷ [])) (filling k rest)
+filling k (group q j ms rest) = beside k (unless (skips q || nothing j ms) (filling j ms)) (filling k rest)
 
 -- there is a member
 abbrev pub Some : {A : Type 0} → Members A → Type 0
@@ -106,6 +93,12 @@ rename f (group q k ms rest) = group q k (rename f ms) (rename f rest)
 unfoldable pub member : {A : Type 0} → Equality A → A → List A → Bool
 member E x [] = false
 member E x (y ∷ ys) = elim (E.same x y) [ true ↦ true | false ↦ member E x ys ]
+
+-- no member
+abbrev pub is_done : {A : Type 0} → Members A → Bool
+is_done done = true
+is_done (el q n rest) = false
+is_done (group q k ms rest) = false
 
 -- `Some`, `Full` and `Distinct` as tests
 abbrev pub is_some : {A : Type 0} → Members A → Bool

@@ -90,9 +90,9 @@ module _ {bs : Bytes} (h : Headed bs) where
   unfolding attribute_body attributes_start shape_of
   attributes_cut = refl
 
-  rows_cut_lem : tree_rows_in bs ≡ take (row_size (width_of bs) * row_count bs) (drop (at_rows (width_of bs) bs) bs)
+  rows_cut : tree_rows_in bs ≡ take (row_size (width_of bs) * row_count bs) (drop (at_rows (width_of bs) bs) bs)
   unfolding row_body rows_start attributes_start shape_of
-  rows_cut_lem = refl
+  rows_cut = refl
 
   cut_length : (at n : ℕ) {ys : Bytes} → ys ≡ take n (drop at bs) → at + n ≤ length bs → n ≡ length ys
   cut_length at n e l = omega (arith, ap (λ (zs : Bytes). length zs) e, length-take n (drop at bs), length-drop at bs)
@@ -113,10 +113,10 @@ module _ {bs : Bytes} (h : Headed bs) where
       }
 
   pub rows_whole : row_size (width_of bs) * row_count bs ≡ length (tree_rows_in bs)
-  rows_whole = cut_length (at_rows (width_of bs) bs) (row_size (width_of bs) * row_count bs) rows_cut_lem (omega (arith, header.size))
+  rows_whole = cut_length (at_rows (width_of bs) bs) (row_size (width_of bs) * row_count bs) rows_cut (omega (arith, header.size))
 
   pub rows_small : Small (tree_rows_in bs)
-  rows_small = cut_small (at_rows (width_of bs) bs) (row_size (width_of bs) * row_count bs) rows_cut_lem
+  rows_small = cut_small (at_rows (width_of bs) bs) (row_size (width_of bs) * row_count bs) rows_cut
 
   -- ---- what is read of them
   pub same_definitions : (flat_of bs).definitions ≡ definitions (definition_count bs) (definitions_in bs)
@@ -148,7 +148,7 @@ module _ {bs : Bytes} (h : Headed bs) where
   same_rows =
       ap (read_many read_row (row_size (width_of bs)) (row_count bs))
       (ap (λ (ys : Bytes). drop (attribute_size (width_of bs) * attribute_count bs) ys) from_attributes_lem ∙ drop-drop (attribute_size (width_of bs) * attribute_count bs) (at_attributes bs) bs)
-      ∙ sym (ap (read_many read_row (row_size (width_of bs)) (row_count bs)) rows_cut_lem ∙ many_within read_row (row_size (width_of bs)) (row_count bs) (drop (at_rows (width_of bs) bs) bs))
+      ∙ sym (ap (read_many read_row (row_size (width_of bs)) (row_count bs)) rows_cut ∙ many_within read_row (row_size (width_of bs)) (row_count bs) (drop (at_rows (width_of bs) bs) bs))
 
   -- the form alone
   abbrev pub form_in : FlatStore
@@ -180,7 +180,7 @@ module _ {bs : Bytes} (h : Headed bs) where
   rows_each : each_fits (row_fits (width_of bs)) (row_size (width_of bs)) (row_count bs) (tree_rows_in bs)
       ≡ each_fits (row_fits (width_of bs)) (row_size (width_of bs)) (row_count bs) (drop (at_rows (width_of bs) bs) bs)
   rows_each =
-      ap (each_fits (row_fits (width_of bs)) (row_size (width_of bs)) (row_count bs)) rows_cut_lem
+      ap (each_fits (row_fits (width_of bs)) (row_size (width_of bs)) (row_count bs)) rows_cut
       ∙ each_fits_cut (row_fits (width_of bs)) (row_size (width_of bs)) (row_count bs) (row_size (width_of bs) * row_count bs) (drop (at_rows (width_of bs) bs) bs) (omega arith)
 
   -- ---- the tests; F: the form by index

@@ -42,11 +42,11 @@ failed {b = false} bs h e = sym e
 
 module _ (c : Call) (bs : Bytes) (room : ℕ) (out : Bytes) where
   pub bad : {b : Bool} {n l : ℕ} → not b ≡ true → b ≡ passes bs → (n ≡ 1) × (l ≡ 0) → Answers (outcome c bs room) out n l out
-  bad h e (n-is, l-is) =
+  bad h e (n_is, l-is) =
       let a : Answers (outcome c bs room) out 1 0 out = answers_bad c bs room (failed bs h e) in
-      record { number_is = n-is ∙ a.number_is; length_is = l-is ∙ a.length_is; buffer_is = a.buffer_is }
+      record { number_is = n_is ∙ a.number_is; length_is = l-is ∙ a.length_is; buffer_is = a.buffer_is }
 
   pub turned_away : {b : Bool} {m n l : ℕ} → not b ≡ false → b ≡ passes bs → m ≡ first (conditions c (store_in bs)) → (m ≡ 0 → ⊥) → (n ≡ m) × (l ≡ 0) → Answers (outcome c bs room) out n l out
-  turned_away {m = m} h e f z (n-is, l-is) =
+  turned_away {m = m} h e f z (n_is, l-is) =
       let a : Answers (outcome c bs room) out m 0 out = answers_condition c bs room (passed bs h e) m f z in
-      record { number_is = n-is ∙ a.number_is; length_is = l-is ∙ a.length_is; buffer_is = a.buffer_is }
+      record { number_is = n_is ∙ a.number_is; length_is = l-is ∙ a.length_is; buffer_is = a.buffer_is }

@@ -52,12 +52,11 @@ pub fn edit_form(
         (planned_in (form_read (width_of store.now) form.now d p a) plan text.now (bodies_of store.now)))
         out.old result.number result.length out.new }
 {
-    let numbers = planned_rows::numbers_of(store);
-    let number = planned_rows::refusal(store, &numbers, form.len(), plan, text, out.len());
+    let number = planned_rows::refusal(store, form.len(), plan, text, out.len());
     if number != 0 {
         return refused(number);
     }
-    let length = plan_writer::put_edited(store, &numbers, form, d, p, a, plan, text, out);
+    let length = plan_writer::put_edited(store, form, d, p, a, plan, text, out);
     Answer { number: 0, length }
 }
 

@@ -13,8 +13,7 @@ use Rattle.row_writer.specs.declared.Cursor.{Cursor}
 use Rattle.row_writer.specs.Written.{Written}
 use Rattle.filling.specs.declared.Filling.{Filling}
 use Rattle.filling.specs.declared.Filling.TheVariants.{Nothing}
-use Rattle.least_member.specs.Counting.{width_in, count_in, version_of_filling, definition_count_in, rows_lent}
-use Rattle.filling.specs.Parts.{value_in, members_read_at, defs_in, parts_in, attrs_in}
+use Rattle.filling.specs.Parts.{value_in, members_read_at, defs_in, parts_in, attrs_in, width_in, count_in, version_of_filling, size_in}
 use Rattle.filling.proofs.DepthLaws.{filling_empty}
 use Rattle.row_walk.specs.declared.Plan.{Plan}
 use Rattle.row_walk.specs.declared.Open.{Open}
@@ -27,8 +26,8 @@ pub settled_nothing : {ks : List ℕ} {fs : List (Bor Bytes)} {v : Bytes} (what 
     → Written w (fill_lent ks fs what v 0) (record { at = 0; left = 1; serial = 0 }) out r out' → (r.left ≡ 0 → ⊥) → Settled ks fs v what Nothing
 settled_nothing {ks} {fs} {v} what x n =
     record {
-      same = filling_empty (index_form (version_of_filling ks) (width_in ks) (definition_count_in ks) (defs_in fs) (parts_in fs) (attrs_in fs) (count_in ks)) (λ j. value_in (width_in ks) (attrs_in fs) j)
-          (rows_lent ks) (λ k e. members_read_at (parts_in fs) k e) what v 0 (omega (arith, x.left, n));
+      same = filling_empty (index_form (version_of_filling ks) (width_in ks) (size_in ks) (defs_in fs) (parts_in fs) (attrs_in fs) (count_in ks)) (λ j. value_in (width_in ks) (attrs_in fs) j)
+          (λ k e. members_read_at (parts_in fs) k e) what v 0 (omega (arith, x.left, n));
       indexed = tt;
     }
 

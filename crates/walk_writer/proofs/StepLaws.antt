@@ -99,8 +99,8 @@ module _ {w : ℕ} {valued : Bool} (index : ℕ) (v row : Bytes) {c r : Cursor} 
   pub with_value_lem : valued ≡ true → Written w (valued_row index v row ∷ []) c out r out' → Written w (row_rewritten valued index v row ∷ []) c out r out'
   with_value_lem e p = written_as (ap (λ (b : Bool). row_rewritten b index v row ∷ []) e) p
 
-  pub with_own_lem : valued ≡ false → Written w (reindexed_row index row ∷ []) c out r out' → Written w (row_rewritten valued index v row ∷ []) c out r out'
-  with_own_lem e p = written_as (ap (λ (b : Bool). row_rewritten b index v row ∷ []) e) p
+  pub with_own : valued ≡ false → Written w (reindexed_row index row ∷ []) c out r out' → Written w (row_rewritten valued index v row ∷ []) c out r out'
+  with_own e p = written_as (ap (λ (b : Bool). row_rewritten b index v row ∷ []) e) p
 
 module _ {w : ℕ} (p : Plan) (v : Bytes) (h : Head) (row : Bytes) (s : Seen w h row) (index : ℕ) (e : index ≡ moved_index p (valueless h).row) where
   moved_as : index ≡ moved_index p (read_row row).row

@@ -5,13 +5,14 @@ use Rattle.rules.specs.Bytes.{Bytes}
 use Rattle.rules.specs.Preorder.{Deep}
 use Rattle.rules.specs.Layout.{FlatRow, row_size}
 use Rattle.rules.specs.Decode.{read_row, read_many}
+use Rattle.form_index.specs.Reading.{index_form}
 use Rattle.layout.specs.Bodies.{Width}
 use Rattle.layout.specs.RowBytes.{valued_row}
 use Rattle.row_writer.specs.declared.Cursor.{Cursor}
 use Rattle.row_writer.specs.Written.{Written, Room, OldRow}
 use Rattle.filling.specs.declared.Filling.{Filling}
-use Rattle.least_member.specs.Counting.{width_in, count_in, definition_count_in}
-use Rattle.filling.specs.Parts.{defs_in, parts_in, attrs_in, fill_with, Indexed}
+use Rattle.filling.specs.Fillings.{filling_rows}
+use Rattle.filling.specs.Parts.{value_in, members_read_at, defs_in, parts_in, attrs_in, width_in, count_in, version_of_filling, size_in, Indexed}
 use Rattle.row_walk.specs.declared.Plan.{Plan}
 use Rattle.row_walk.specs.declared.Open.{Open}
 use Rattle.row_walk.specs.declared.Head.{Head}
@@ -38,12 +39,15 @@ pub record Came (w : ℕ) (xs : List (Deep FlatRow)) (o : Open) (c : Cursor) (ou
   pub written : Written w xs c out r.cursor out'
   pub opened : r.opened ≡ o
 
--- a filling at a depth, of a plan, by the numbers and the bytes of the form; and of a form that is lent
-abbrev pub plan_filling : List ℕ → Bytes → Bytes → Bytes → Plan → Bytes → ℕ → List (Deep FlatRow)
-plan_filling ks defs parts attrs p text d = fill_with ks defs parts attrs p.filling text d
+-- a filling at a depth, from the bytes of the form; that of a plan; and both of a form that is lent
+abbrev pub fill_with : ℕ → ℕ → ℕ → Bytes → Bytes → ℕ → Bytes → Filling → Bytes → ℕ → List (Deep FlatRow)
+fill_with version w n defs parts a attrs what text d = filling_rows (index_form version w n defs parts attrs a) (λ j. value_in w attrs j) (λ k e. members_read_at parts k e) what text d
+
+abbrev pub plan_filling : ℕ → ℕ → ℕ → Bytes → Bytes → ℕ → Bytes → Plan → Bytes → ℕ → List (Deep FlatRow)
+plan_filling version w n defs parts a attrs p text d = fill_with version w n defs parts a attrs p.filling text d
 
 abbrev pub fill_lent : List ℕ → List (Bor Bytes) → Filling → Bytes → ℕ → List (Deep FlatRow)
-fill_lent ks fs what text d = fill_with ks (defs_in fs) (parts_in fs) (attrs_in fs) what text d
+fill_lent ks fs what text d = fill_with (version_of_filling ks) (width_in ks) (size_in ks) (defs_in fs) (parts_in fs) (count_in ks) (attrs_in fs) what text d
 
 abbrev pub fill_in : List ℕ → List (Bor Bytes) → Plan → Bytes → ℕ → List (Deep FlatRow)
 fill_in ks fs p text d = fill_lent ks fs p.filling text d
@@ -65,7 +69,7 @@ pub record Ready (w n a : ℕ) (txt : Bytes) (p : Plan) : Type 0 where
 
 -- .. where they are lent
 abbrev pub ReadyIn : List ℕ → Bytes → Plan → Type 0
-ReadyIn ks txt p = Ready (width_in ks) (definition_count_in ks) (count_in ks) txt p
+ReadyIn ks txt p = Ready (width_in ks) (size_in ks) (count_in ks) txt p
 
 pub record Near (o : Open) : Type 0 where
   pub below : o.below ≤ 82

@@ -5,15 +5,13 @@ ghost use Rattle.rules.specs.Layout.{row_size};
 ghost use Rattle.rules.specs.Decode.{read_row, read_many};
 ghost use Rattle.layout.specs.Bodies.{Width};
 ghost use Rattle.row_writer.specs.Written.{Written, Room, OldRow};
-ghost use Rattle.least_member.specs.Counting.{width_in, count_in, definition_count_in};
-ghost use Rattle.filling.specs.Parts.{Asks, Indexed};
+ghost use Rattle.filling.specs.Parts.{width_in, count_in, size_in, Asks, Indexed};
 ghost use Rattle.row_walk.specs.Walk.{is_taken, owed, emitted, next_open, walked, at_first};
 ghost use Rattle.row_walk.specs.Lent.{plan_in};
 ghost use Rattle.row_walk.specs.Step.{row_of_head, valueless, Planned};
-ghost use Rattle.walk_writer.specs.Step.{row_rewritten, step_rows, step_open, Came, plan_filling, fill_in, Settled, ReadyIn, Near, WalkRow, Seen, WalkRows, PlainRows, Advances};
+ghost use Rattle.walk_writer.specs.Step.{row_rewritten, step_rows, step_open, Came, plan_filling, fill_in, Settled, Ready, ReadyIn, Near, WalkRow, Seen, WalkRows, PlainRows, Advances};
 
 use filling::Filling;
-use least_member::NUMBERS;
 use row_walk::{Head, Open, Plan};
 use row_writer::Cursor;
 
@@ -73,31 +71,17 @@ fn put_row(
 }
 
 // ---- The walk. As in `filling`, the form is lent as one array of slices (definitions, particles, attributes) and one
-// of numbers.
+// of numbers (the width of a value, the number of attributes, the version, the number of definitions).
 
 // The filling that the walk goes with: nothing, if that of the plan has no rows, so that the members of a group are not
 // gone through again at each place. It is written up to its first row, into a buffer of one byte.
-fn filling_with_rows(
-    form: &[&[u8]; 3],
-    numbers: &[usize; NUMBERS],
-    what: Filling,
-    text: &[u8],
-) -> Filling
-    requires { Indexed what × Asks (width_in numbers.now) (record { at = 0; left = 1; serial = 0 }) text.now (count_in numbers.now) (definition_count_in numbers.now) 0 }
-    ensures { Settled numbers.now form.now text.now what result }
+fn filling_with_rows(form: &[&[u8]; 3], sizes: &[usize; 4], what: Filling, text: &[u8]) -> Filling
+    requires { Indexed what × Asks (width_in sizes.now) (record { at = 0; left = 1; serial = 0 }) text.now (count_in sizes.now) (size_in sizes.now) 0 }
+    ensures { Settled sizes.now form.now text.now what result }
 {
     let mut clipped = [0; 1];
     let mut c = [0, 1, 0];
-    filling::put_any(
-        what,
-        form,
-        &text,
-        numbers,
-        numbers[3],
-        0,
-        &mut c,
-        &mut clipped,
-    );
+    filling::put_any(what, form, &text, sizes, sizes[3], 0, &mut c, &mut clipped);
     if c[1] == 0 {
         return what;
     }
@@ -107,7 +91,7 @@ fn filling_with_rows(
 // The filling at a depth, if it is due.
 fn put_owed(
     form: &[&[u8]; 3],
-    numbers: &[usize; NUMBERS],
+    sizes: &[usize; 4],
     p: &[usize; 19],
     text: &[u8],
     due: bool,
@@ -115,15 +99,15 @@ fn put_owed(
     c: Cursor,
     out: &mut [u8],
 ) -> Cursor
-    requires { Indexed (plan_in p.now []).filling × Asks (width_in numbers.now) c text.now (count_in numbers.now) (definition_count_in numbers.now) depth }
-    ensures { Written (width_in numbers.now)
-        (owed due (fill_in numbers.now form.now (plan_in p.now []) text.now depth)) c out.old result
+    requires { Indexed (plan_in p.now []).filling × Asks (width_in sizes.now) c text.now (count_in sizes.now) (size_in sizes.now) depth }
+    ensures { Written (width_in sizes.now)
+        (owed due (fill_in sizes.now form.now (plan_in p.now []) text.now depth)) c out.old result
         out.new }
 {
     if due {
         let what = plan_numbers::filling_of(p);
         let mut r = [c.at, c.left, c.serial];
-        filling::put_any(what, form, &text, numbers, numbers[3], depth, &mut r, out);
+        filling::put_any(what, form, &text, sizes, sizes[3], depth, &mut r, out);
         return Cursor {
             at: r[0],
             left: r[1],
@@ -136,7 +120,7 @@ fn put_owed(
 // What comes of a row that is not taken, where a filling may come right before it.
 fn come_due(
     form: &[&[u8]; 3],
-    numbers: &[usize; NUMBERS],
+    sizes: &[usize; 4],
     p: &[usize; 19],
     marks: &[u8],
     text: &[u8],
@@ -146,19 +130,19 @@ fn come_due(
     c: Cursor,
     out: &mut [u8],
 ) -> Stepped
-    requires { ReadyIn numbers.now text.now (plan_in p.now marks.now) × Seen (width_in numbers.now) h row.now × Room (width_in numbers.now) c
+    requires { ReadyIn sizes.now text.now (plan_in p.now marks.now) × Seen (width_in sizes.now) h row.now × Room (width_in sizes.now) c
         × (is_taken (plan_in p.now marks.now) o (valueless h) ≡ false) }
-    ensures { Came (width_in numbers.now)
+    ensures { Came (width_in sizes.now)
         (emitted (plan_in p.now marks.now) text.now
-        (fill_in numbers.now form.now (plan_in p.now marks.now) text.now) o (read_row row.now))
+        (fill_in sizes.now form.now (plan_in p.now marks.now) text.now) o (read_row row.now))
         (next_open (plan_in p.now marks.now) text.now
-        (fill_in numbers.now form.now (plan_in p.now marks.now) text.now) o (read_row row.now))
+        (fill_in sizes.now form.now (plan_in p.now marks.now) text.now) o (read_row row.now))
         c out.old result out.new }
 {
     let filled = row_walk::is_filled(p, marks, o, h);
-    let at = put_owed(form, numbers, p, text, filled, h.depth, c, out);
+    let at = put_owed(form, sizes, p, text, filled, h.depth, c, out);
     let index = row_walk::moved_index(p, h);
-    let next = put_row(numbers[0], index, h.serial == p[9], text, row, at, out);
+    let next = put_row(sizes[0], index, h.serial == p[9], text, row, at, out);
     let due = o.due & !(row_walk::is_below(o, h) & row_walk::is_later(p, marks, h));
     Stepped {
         cursor: next,
@@ -169,7 +153,7 @@ fn come_due(
 // What comes of a row, where what it closes is closed.
 fn come(
     form: &[&[u8]; 3],
-    numbers: &[usize; NUMBERS],
+    sizes: &[usize; 4],
     p: &[usize; 19],
     marks: &[u8],
     text: &[u8],
@@ -179,12 +163,12 @@ fn come(
     c: Cursor,
     out: &mut [u8],
 ) -> Stepped
-    requires { ReadyIn numbers.now text.now (plan_in p.now marks.now) × Seen (width_in numbers.now) h row.now × Room (width_in numbers.now) c }
-    ensures { Came (width_in numbers.now)
+    requires { ReadyIn sizes.now text.now (plan_in p.now marks.now) × Seen (width_in sizes.now) h row.now × Room (width_in sizes.now) c }
+    ensures { Came (width_in sizes.now)
         (emitted (plan_in p.now marks.now) text.now
-        (fill_in numbers.now form.now (plan_in p.now marks.now) text.now) o (read_row row.now))
+        (fill_in sizes.now form.now (plan_in p.now marks.now) text.now) o (read_row row.now))
         (next_open (plan_in p.now marks.now) text.now
-        (fill_in numbers.now form.now (plan_in p.now marks.now) text.now) o (read_row row.now))
+        (fill_in sizes.now form.now (plan_in p.now marks.now) text.now) o (read_row row.now))
         c out.old result out.new }
 {
     if row_walk::is_taken(p, o, h) {
@@ -194,10 +178,10 @@ fn come(
         };
     }
     if o.due & row_walk::is_below(o, h) {
-        return come_due(form, numbers, p, marks, text, h, row, o, c, out);
+        return come_due(form, sizes, p, marks, text, h, row, o, c, out);
     }
     let index = row_walk::moved_index(p, h);
-    let next = put_row(numbers[0], index, h.serial == p[9], text, row, c, out);
+    let next = put_row(sizes[0], index, h.serial == p[9], text, row, c, out);
     Stepped {
         cursor: next,
         opened: row_walk::kept(p, o, h, o.due),
@@ -207,7 +191,7 @@ fn come(
 // One row.
 fn step(
     form: &[&[u8]; 3],
-    numbers: &[usize; NUMBERS],
+    sizes: &[usize; 4],
     p: &[usize; 19],
     marks: &[u8],
     text: &[u8],
@@ -216,12 +200,12 @@ fn step(
     c: Cursor,
     out: &mut [u8],
 ) -> Stepped
-    requires { ReadyIn numbers.now text.now (plan_in p.now marks.now) × WalkRow (width_in numbers.now) row.now × Near o × Room (width_in numbers.now) c }
-    ensures { Came (width_in numbers.now)
+    requires { ReadyIn sizes.now text.now (plan_in p.now marks.now) × WalkRow (width_in sizes.now) row.now × Near o × Room (width_in sizes.now) c }
+    ensures { Came (width_in sizes.now)
         (step_rows (plan_in p.now marks.now) text.now
-        (fill_in numbers.now form.now (plan_in p.now marks.now) text.now) o (read_row row.now))
+        (fill_in sizes.now form.now (plan_in p.now marks.now) text.now) o (read_row row.now))
         (step_open (plan_in p.now marks.now) text.now
-        (fill_in numbers.now form.now (plan_in p.now marks.now) text.now) o (read_row row.now))
+        (fill_in sizes.now form.now (plan_in p.now marks.now) text.now) o (read_row row.now))
         c out.old result out.new }
 {
     let h = read_head(row);
@@ -233,9 +217,9 @@ fn step(
     }
     let due = row_walk::closes(o, h) & o.due;
     let depth = layout::minus(o.below, 1);
-    let at = put_owed(form, numbers, p, text, due, depth, c, out);
+    let at = put_owed(form, sizes, p, text, due, depth, c, out);
     let q = row_walk::closed(o, h);
-    come(form, numbers, p, marks, text, h, row, q, at, out)
+    come(form, sizes, p, marks, text, h, row, q, at, out)
 }
 
 // How many of the first rows of `most` stay as they are.
@@ -277,7 +261,7 @@ fn plain_rows(
 // The rows that stay as they are, as one block, and the row after them; no more rows than may be written.
 fn pass(
     form: &[&[u8]; 3],
-    numbers: &[usize; NUMBERS],
+    sizes: &[usize; 4],
     p: &[usize; 19],
     marks: &[u8],
     text: &[u8],
@@ -287,15 +271,15 @@ fn pass(
     c: Cursor,
     out: &mut [u8],
 ) -> Passed
-    requires { ReadyIn numbers.now text.now (plan_in p.now marks.now) × WalkRows (width_in numbers.now) count rows.now
-        × (row_size (width_in numbers.now) * count ≤ length rows.now) × Near o × Room (width_in numbers.now) c × (0 < count) × (0 < c.left) }
-    ensures { Advances (width_in numbers.now) (plan_in p.now marks.now) text.now
-        (fill_in numbers.now form.now (plan_in p.now marks.now) text.now) rows.now count o c out.old result out.new }
+    requires { ReadyIn sizes.now text.now (plan_in p.now marks.now) × WalkRows (width_in sizes.now) count rows.now
+        × (row_size (width_in sizes.now) * count ≤ length rows.now) × Near o × Room (width_in sizes.now) c × (0 < count) × (0 < c.left) }
+    ensures { Advances (width_in sizes.now) (plan_in p.now marks.now) text.now
+        (fill_in sizes.now form.now (plan_in p.now marks.now) text.now) rows.now count o c out.old result out.new }
 {
     let most = count - layout::minus(count, c.left);
-    let run = plain_rows(numbers[0], p, marks, rows, most, o);
+    let run = plain_rows(sizes[0], p, marks, rows, most, o);
     let q = run.opened;
-    let at = row_writer::put_block(numbers[0], rows, run.count, c, out);
+    let at = row_writer::put_block(sizes[0], rows, run.count, c, out);
     if run.count == most {
         return Passed {
             cursor: at,
@@ -303,9 +287,9 @@ fn pass(
             rows: most,
         };
     }
-    let size = layout::row_size(numbers[0]);
+    let size = layout::row_size(sizes[0]);
     let row = layout::window(rows, size * run.count, size);
-    let s = step(form, numbers, p, marks, text, row, q, at, out);
+    let s = step(form, sizes, p, marks, text, row, q, at, out);
     let cursor = s.cursor;
     let opened = s.opened;
     Passed {
@@ -318,7 +302,7 @@ fn pass(
 // The walk over `count` rows. It stops where no row may be written any more.
 fn walk_lent(
     form: &[&[u8]; 3],
-    numbers: &[usize; NUMBERS],
+    sizes: &[usize; 4],
     p: &[usize; 19],
     marks: &[u8],
     rows: &[u8],
@@ -327,15 +311,15 @@ fn walk_lent(
     c: Cursor,
     out: &mut [u8],
 ) -> Cursor
-    requires { ReadyIn numbers.now text.now (plan_in p.now marks.now) × WalkRows (width_in numbers.now) count rows.now
-        × (row_size (width_in numbers.now) * count ≤ length rows.now) × Room (width_in numbers.now) c }
-    ensures { Written (width_in numbers.now)
+    requires { ReadyIn sizes.now text.now (plan_in p.now marks.now) × WalkRows (width_in sizes.now) count rows.now
+        × (row_size (width_in sizes.now) * count ≤ length rows.now) × Room (width_in sizes.now) c }
+    ensures { Written (width_in sizes.now)
         (walked (plan_in p.now marks.now) text.now
-        (fill_in numbers.now form.now (plan_in p.now marks.now) text.now)
-        (at_first (plan_in p.now marks.now)) (read_many read_row (row_size (width_in numbers.now)) count rows.now))
+        (fill_in sizes.now form.now (plan_in p.now marks.now) text.now)
+        (at_first (plan_in p.now marks.now)) (read_many read_row (row_size (width_in sizes.now)) count rows.now))
         c out.old result out.new }
 {
-    let size = layout::row_size(numbers[0]);
+    let size = layout::row_size(sizes[0]);
     let mut t = rows;
     let mut m = count;
     let mut at = c;
@@ -344,7 +328,7 @@ fn walk_lent(
         if at.left == 0 {
             return at;
         }
-        let s = pass(form, numbers, p, marks, text, t, m, o, at, out);
+        let s = pass(form, sizes, p, marks, text, t, m, o, at, out);
         at = s.cursor;
         o = s.opened;
         let long = size * s.rows;
@@ -352,14 +336,17 @@ fn walk_lent(
         m -= s.rows;
     }
     let depth = layout::minus(o.below, 1);
-    put_owed(form, numbers, p, text, o.due, depth, at, out)
+    put_owed(form, sizes, p, text, o.due, depth, at, out)
 }
 
-/// The walk over `count` rows.
+/// The walk over `count` rows: n definitions, a attributes.
 pub fn walk<'a>(
-    numbers: &[usize; NUMBERS],
+    version: usize,
+    w: usize,
+    n: usize,
     defs: &'a [u8],
     parts: &'a [u8],
+    a: usize,
     attrs: &'a [u8],
     rows: &[u8],
     count: usize,
@@ -368,15 +355,15 @@ pub fn walk<'a>(
     c: Cursor,
     out: &mut [u8],
 ) -> Cursor
-    requires { ReadyIn numbers.now text.now plan × WalkRows (width_in numbers.now) count rows.now
-        × (row_size (width_in numbers.now) * count ≤ length rows.now) × Room (width_in numbers.now) c }
-    ensures { Written (width_in numbers.now)
-        (walked plan text.now (plan_filling numbers.now defs.now parts.now attrs.now plan text.now)
-        (at_first plan) (read_many read_row (row_size (width_in numbers.now)) count rows.now))
+    requires { Ready w n a text.now plan × WalkRows w count rows.now × (row_size w * count ≤ length rows.now) × Room w c }
+    ensures { Written w
+        (walked plan text.now (plan_filling version w n defs.now parts.now a attrs.now plan text.now)
+        (at_first plan) (read_many read_row (row_size w) count rows.now))
         c out.old result out.new }
 {
     let form = [defs, parts, attrs];
-    let what = filling_with_rows(&form, numbers, plan.filling, text);
+    let sizes = [w, a, version, n];
+    let what = filling_with_rows(&form, &sizes, plan.filling, text);
     let p = plan_numbers::plan_numbers(plan, what);
-    walk_lent(&form, numbers, &p, &plan.marks, rows, count, text, c, out)
+    walk_lent(&form, &sizes, &p, &plan.marks, rows, count, text, c, out)
 }

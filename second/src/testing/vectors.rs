@@ -220,11 +220,6 @@ pub fn same<T: PartialEq + std::fmt::Debug>(given: T, wanted: T) -> Result<(), S
 }
 
 impl Output {
-    /// What an accepted call must write.
-    pub fn written(&self) -> Option<&[u8]> {
-        (self.number == 0).then(|| &self.after[..self.length])
-    }
-
     fn read(words: &mut Words) -> Result<Output, String> {
         Ok(Output {
             before: words.bytes()?,
@@ -324,12 +319,19 @@ pub fn run_files(mut run: impl FnMut(&Line) -> Result<(), String>) -> usize {
 }
 
 /// How many of paper 02's requests are done: their vectors hold, too.
-const REQUESTS: usize = 4;
+const REQUESTS: usize = 3;
 
-/// The request whose vectors a file has: the number with which its name begins.
-pub fn request_of(file: &Path) -> Option<usize> {
-    let name = file.file_name()?.to_str()?;
-    name.split('-').next()?.parse().ok()
+/// Whether a file has the vectors of a request that is done: its name begins with the request's number.
+fn is_of_done(path: &Path) -> bool {
+    let name = path
+        .file_name()
+        .and_then(|name| name.to_str())
+        .unwrap_or_default();
+    let number = name
+        .split('-')
+        .next()
+        .and_then(|number| number.parse().ok());
+    number.is_some_and(|number: usize| number <= REQUESTS)
 }
 
 /// The text files of a folder.
@@ -343,7 +345,7 @@ fn texts(folder: &Path) -> std::io::Result<Vec<PathBuf>> {
 
 /// The sample in the repository, and the files of the folder FORM_VECTORS, or of
 /// `shared/vectors` beside the repository if there is one, with those of its `requests`.
-pub fn files() -> Vec<PathBuf> {
+fn files() -> Vec<PathBuf> {
     let root = Path::new(env!("CARGO_MANIFEST_DIR")).join("..");
     let given = std::env::var_os("FORM_VECTORS");
     let folder = match &given {
@@ -356,9 +358,7 @@ pub fn files() -> Vec<PathBuf> {
             files.extend(paths);
             assert!(files.len() > 1, "no vectors in {}", folder.display());
             let requests = texts(&folder.join("requests")).unwrap_or_default();
-            let is_done =
-                |path: &PathBuf| request_of(path).is_some_and(|number| number <= REQUESTS);
-            files.extend(requests.into_iter().filter(is_done));
+            files.extend(requests.into_iter().filter(|path| is_of_done(path)));
         }
         Err(_) => {
             assert!(given.is_none(), "FORM_VECTORS names no folder");

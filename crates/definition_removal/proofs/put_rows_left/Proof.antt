@@ -26,19 +26,14 @@ sub-shifting c = search rules
 shifting-requires : tie.Need-shifting-requires
 shifting-requires c κs = search rules
 
-numbers-of-requires : tie.Need-numbers-of-requires
-numbers-of-requires c κs = search rules
-
 slice-aggregate-walk-rows : tie.Need-slice-aggregate-walk-rows
 slice-aggregate-walk-rows c = search rules
 
 walk-rows-requires : tie.Need-walk-rows-requires
 walk-rows-requires c κs =
-    let at-numbers-of = c.before.before.before in
-    let at-shifting = at-numbers-of.before in
+    let at-shifting = c.before.before in
     let start = at-shifting.before.before.before.before.before in (
       start.requires.0.good,
-      at-numbers-of.Numbers-of.ensures,
       none_value (width_of start.args.store.now),
       subst (λ (q : Plan). Sized q) (sym at-shifting.shifting.ensures) (sized _ _ _),
       omega (arith, start.requires.1),
@@ -50,8 +45,7 @@ same_length c = search rules
 returns : tie.Need-returns
 returns c =
     let at-walk-rows = c.before.before in
-    let at-numbers-of = at-walk-rows.before.before.before.before in
-    let at-shifting = at-numbers-of.before in
+    let at-shifting = at-walk-rows.before.before.before in
     let at-attribute-range = at-shifting.before.before in
     let start = at-attribute-range.before.before.before in
     let a = start.args in
@@ -66,7 +60,6 @@ put-rows-left-spec =
     add-shifting
     sub-shifting
     shifting-requires
-    numbers-of-requires
     slice-aggregate-walk-rows
     walk-rows-requires
     same_length

@@ -1,26 +1,26 @@
 -- `filling::put_below`, `filling::put_definition`, `filling::put_group` and `filling::put_member` meet their contracts:
 -- each return has its law, of FillingLaws where no file is named. `put_below` writes nothing (`below_none`), the text
 -- (`below-text`) or the filling of the model (`below-group`), which is empty where no element must be there
--- (`below-nothing`, `no-element-filled` of NeededLaws in `nothing_check`). `put_definition` writes nothing at height 0
--- (`definition-low`), else its three parts (`definition-written`). `put_group` returns where no row may be written any
--- more (`written-stop` of WrittenLaws in `row_writer`), at a particle less deep (`rest_over`), after the member that a
--- CHOICE fills with (`rest-first`) and past the last particle (`rest-ends`); it goes on after a particle that is passed
--- (`rest-past`) and after a member of a LIST (`rest-on`). In `put_member` the particle may be absent (`member-skips` of
--- MemberLaws in `least_member`), is an element (`member-element`) or a group (`member-group`): one whose members fill
--- with nothing (`group-none`), or one of which the part that `group_part` hands back is written. With each call falls
--- the height or, at one height, the bytes of particles (`rank-height`, `rank-part`, `rank-particles`).
+-- (`below-nothing`, `no-element-filled` of NeededLaws). `put_definition` writes nothing at height 0 (`definition-low`),
+-- else its three parts (`definition-written`). `put_group` returns where no row may be written any more (`written-stop`
+-- of WrittenLaws in `row_writer`), at a particle less deep (`rest_over`), after the first member of a CHOICE
+-- (`rest-first`) and past the last particle (`rest-ends`); it goes on after a particle that is passed (`rest-past`) and
+-- after a member of a LIST (`rest-on`). In `put_member` the particle may be absent (`member-skips`), is an element
+-- (`member-element`), a group that fills with nothing (`member-empty`, `member-nothing`) or another group
+-- (`member-group`). With each call falls the height or, at one height, the bytes of particles (`rank-height`,
+-- `rank-part`, `rank-particles`).
 use mathlib.Core.Path.{refl, sym, ◌∙◌}
+use mathlib.Core.Logic.{⊎_elim}
+use mathlib.Core.Bool.{false}
 use lib.ListN.{take, drop, length-take, length-drop, length}
 use Rattle.rules.specs.declared.GroupKind.TheVariants.{Sequence}
-use Rattle.rules.specs.Layout.{particle_size}
 use Rattle.row_writer.proofs.WrittenLaws.{written_stop, written_room, written_long}
-use Rattle.least_member.specs.Counting.{width_in, count_in, version_of_filling, rows_lent}
-use Rattle.filling.specs.Parts.{defs_in, parts_in, attrs_in, cursor_in}
-use Rattle.least_member.proofs.MemberLaws.{member_skips, member_element, member_group}
-use Rattle.filling.proofs.FillingLaws.{Rest, rest_starts, rest_past, rest_here, rest_on, rest_first, rest_over, rest_ends, group_none}
-use Rattle.filling.proofs.FillingLaws.{definition_low, definition_written, below_none, below_text, below_group, below_nothing, part_short, index_small}
-use Rattle.filling.proofs.FillingLaws.{none_written, one_written, same_written, top, rank, rank_particles, rank_part, rank_height}
-use Rattle.nothing_check.proofs.NeededLaws.{no_element_filled}
+use Rattle.filling.specs.Parts.{defs_in, parts_in, attrs_in, width_in, count_in, version_of_filling, cursor_in}
+use Rattle.filling.proofs.FillingLaws.{Rest, rest_starts, rest_past, rest_here, rest_on, rest_first, rest_over, rest_ends, member_skips, member_element}
+use Rattle.filling.proofs.FillingLaws.{member_empty, member_nothing_lem, member_group, definition_low, definition_written, below_none, below_text, below_group}
+use Rattle.filling.proofs.FillingLaws.{none_written, one_written, same_written, index_small, top, rank, rank_particles, rank_part, rank_height}
+use Rattle.filling.proofs.FillingLaws.{part_short, below_nothing, filled_list, filled_choice}
+use Rattle.filling.proofs.NeededLaws.{no_element_filled}
 use borrow.Author.Rules.{rules}
 use native.Mathlib.Omega.{arith}
 use Prim.Native.Nat.{ℕ, ◌<◌, ◌+◌, ◌-◌, ◌*◌}
@@ -38,18 +38,19 @@ use Rattle.filling.proofs.+put_below_put_definition_put_group_put_member.Lts-put
 use Rattle.filling.proofs.put_member.Reads as put-member
 use Rattle.filling.proofs.put_member.Kinds as put-member-kinds
 use Rattle.filling.proofs.+put_below_put_definition_put_group_put_member.Lts-put_member as put-member-lts
-use Rattle.filling.proofs.group_part.Reads as group-part-reads
-use Rattle.nothing_check.proofs.is_passed.Reads as is-passed-reads
-use Rattle.nothing_check.proofs.needs_no_element.Reads as needs-no-element-reads
+use Rattle.layout.proofs.particle_depth.Reads as particle-depth-reads
+use Rattle.filling.proofs.accepts_nothing.Reads as accepts-nothing-reads
+use Rattle.filling.proofs.is_passed.Reads as is-passed-reads
+use Rattle.filling.proofs.needs_no_element.Reads as needs-no-element-reads
 use Rattle.filling.proofs.put_required.Reads as put-required-reads
 use Rattle.filling.proofs.put_row.Reads as put-row-reads
-use Rattle.form_index.proofs.kind_of.Reads as kind-of-reads
-use Rattle.form_index.proofs.model_part.Reads as model-part-reads
-use Rattle.layout.proofs.particle_depth.Reads as particle-depth-reads
 use Rattle.model.proofs.read_particle.Reads as read-particle-reads
 use Rattle.model.proofs.skips.Reads as skips-reads
+use Rattle.form_index.proofs.kind_of.Reads as kind-of-reads
+use Rattle.form_index.proofs.model_part.Reads as model-part-reads
 use Rattle.filling.proofs.+put_below_put_definition_put_group_put_member.{statement}
 use Rattle.filling.proofs.+put_below_put_definition_put_group_put_member.Tie.{close}
+use Rattle.rules.specs.Layout.{particle_size}
 
 abbrev μ-put-below : Measures 7 put-below-kinds.ps ℕ
 μ-put-below κs a = rank a.1.1.1.1.0 top
@@ -131,8 +132,8 @@ put-member-calls t = (
   put-definition.Post,
   needs-no-element-reads.Asked,
   needs-no-element-reads.Learnt,
-  group-part-reads.Asked,
-  group-part-reads.Learnt,
+  accepts-nothing-reads.Asked,
+  accepts-nothing-reads.Learnt,
   put-group-below t,
   put-group.Post,
 )
@@ -172,9 +173,9 @@ put-below-returns t c =
     let at-kind-of = at-match.before in
     let start = at-kind-of.before.before.before in
     let a = start.args in
-    below_nothing (version_of_filling a.numbers.now) (width_in a.numbers.now) (defs_in a.form.now) (parts_in a.form.now) (attrs_in a.form.now)
-    (count_in a.numbers.now) (rows_lent a.numbers.now) a.text.now.now a.h a.depth a.i _ at-kind-of.kind-of.ensures _ at-match.match.rest.0.1 at-match.match.rest.1
-    at-model-part.model-part.ensures (no_element_filled (rows_lent a.numbers.now) Sequence 0 _ (sym at-needs.needs-no-element.ensures ∙ c.if1.true))
+    below_nothing (version_of_filling a.sizes.now) (width_in a.sizes.now) (defs_in a.form.now) (parts_in a.form.now) (attrs_in a.form.now)
+    (count_in a.sizes.now) a.text.now.now a.h a.depth a.i _ at-kind-of.kind-of.ensures _ at-match.match.rest.0.1 at-match.match.rest.1
+    at-model-part.model-part.ensures (no_element_filled Sequence 0 _ (sym at-needs.needs-no-element.ensures ∙ c.if1.true))
 
 put-below-put-group-requires : (t : ℕ) → put-below-lts.Need-put-group-requires (put-below-calls t) (put-below-at t) put_below.Post
 put-below-put-group-requires t c κs =
@@ -190,8 +191,8 @@ put-below-returns-2 : (t : ℕ) → put-below-lts.Need-returns-2 (put-below-call
 put-below-returns-2 t c =
     let start = c.before.before.before.before in
     let a = start.args in
-    below_none (version_of_filling a.numbers.now) (width_in a.numbers.now) (defs_in a.form.now) (parts_in a.form.now) (attrs_in a.form.now)
-    (count_in a.numbers.now) (rows_lent a.numbers.now) a.text.now.now a.h a.depth a.i _ c.before.kind-of.ensures (omega arith)
+    below_none (version_of_filling a.sizes.now) (width_in a.sizes.now) (defs_in a.form.now) (parts_in a.form.now) (attrs_in a.form.now)
+    (count_in a.sizes.now) a.text.now.now a.h a.depth a.i _ c.before.kind-of.ensures (omega arith)
 
 put-below-same-length : (t : ℕ) → put-below-lts.Need-same-length (put-below-calls t) (put-below-at t) put_below.Post
 put-below-same-length t c = search rules
@@ -201,8 +202,8 @@ put-below-returns-3 t c =
     let put-row = c.before.before.put-row in
     let kind-of = c.before.before.before.before.before.before.before.before.kind-of in
     let a = c.before.before.before.before.before.before.before.before.before.before.before.args in
-    below_text (version_of_filling a.numbers.now) (width_in a.numbers.now) (defs_in a.form.now) (parts_in a.form.now) (attrs_in a.form.now)
-    (count_in a.numbers.now) (rows_lent a.numbers.now) a.text.now.now a.h a.depth a.i _ kind-of.ensures (omega arith) put-row.ensures
+    below_text (version_of_filling a.sizes.now) (width_in a.sizes.now) (defs_in a.form.now) (parts_in a.form.now) (attrs_in a.form.now)
+    (count_in a.sizes.now) a.text.now.now a.h a.depth a.i _ kind-of.ensures (omega arith) put-row.ensures
 
 put-below-same-length-2 : (t : ℕ) → put-below-lts.Need-same-length-2 (put-below-calls t) (put-below-at t) put_below.Post
 put-below-same-length-2 t c = search rules
@@ -215,16 +216,16 @@ put-below-returns-4 t c =
     let at-kind-of = at-match.before in
     let start = at-kind-of.before.before.before in
     let a = start.args in
-    below_group (version_of_filling a.numbers.now) (width_in a.numbers.now) (defs_in a.form.now) (parts_in a.form.now) (attrs_in a.form.now)
-    (count_in a.numbers.now) (rows_lent a.numbers.now) a.text.now.now a.h a.depth a.i _ at-kind-of.kind-of.ensures _ at-match.match.rest.0.1 at-match.match.rest.1
+    below_group (version_of_filling a.sizes.now) (width_in a.sizes.now) (defs_in a.form.now) (parts_in a.form.now) (attrs_in a.form.now)
+    (count_in a.sizes.now) a.text.now.now a.h a.depth a.i _ at-kind-of.kind-of.ensures _ at-match.match.rest.0.1 at-match.match.rest.1
     at-model-part.model-part.ensures at-put-group.put-group.ensures
 
 put-definition-returns : (t : ℕ) → put-definition-lts.Need-returns (put-definition-calls t) (put-definition-at t) put-definition.Post
 put-definition-returns t c =
     let start = c.before.before in
     let a = start.args in
-    definition_low (version_of_filling a.numbers.now) (width_in a.numbers.now) (defs_in a.form.now) (parts_in a.form.now) (attrs_in a.form.now)
-    (count_in a.numbers.now) (rows_lent a.numbers.now) a.text.now.now a.h a.depth a.i (omega arith)
+    definition_low (version_of_filling a.sizes.now) (width_in a.sizes.now) (defs_in a.form.now) (parts_in a.form.now) (attrs_in a.form.now)
+    (count_in a.sizes.now) a.text.now.now a.h a.depth a.i (omega arith)
 
 put-definition-element-copy-out-w : (t : ℕ) → put-definition-lts.Need-element-copy-out-w (put-definition-calls t) (put-definition-at t) put-definition.Post
 put-definition-element-copy-out-w t c = search rules
@@ -297,18 +298,18 @@ put-definition-returns-2 : (t : ℕ) → put-definition-lts.Need-returns-2 (put-
 put-definition-returns-2 t c =
     let a =
     c.before.before.before.before.before.before.before.before.before.before.before.before.before.before.before.before.before.before.before.before.before.before.before.args in
-    definition_written (version_of_filling a.numbers.now) (width_in a.numbers.now) (defs_in a.form.now) (parts_in a.form.now) (attrs_in a.form.now)
-    (count_in a.numbers.now) (rows_lent a.numbers.now) a.text.now.now a.h a.depth a.i (λ e. omega arith)
+    definition_written (version_of_filling a.sizes.now) (width_in a.sizes.now) (defs_in a.form.now) (parts_in a.form.now) (attrs_in a.form.now)
+    (count_in a.sizes.now) a.text.now.now a.h a.depth a.i (λ e. omega arith)
     c.before.before.before.before.before.before.before.before.before.before.before.before.before.before.before.put-row.ensures
     c.before.before.before.before.before.before.before.put-required.ensures c.before.before.put_below.ensures
 
 -- the members from t on are still to be written
 abbrev put-group-Inv-loop : put-group-lts.invariant-loop
-put-group-Inv-loop s d kind form text numbers h depth c₀ out₀ t₀ c out t =
-    Rest (version_of_filling numbers) (width_in numbers) (defs_in form) (parts_in form) (attrs_in form) (count_in numbers) (rows_lent numbers) text.now h depth kind d s (cursor_in c₀) out₀ t (cursor_in c) out
+put-group-Inv-loop s d kind form text sizes h depth c₀ out₀ t₀ c out t =
+    Rest (version_of_filling sizes) (width_in sizes) (defs_in form) (parts_in form) (attrs_in form) (count_in sizes) text.now h depth kind d s (cursor_in c₀) out₀ t (cursor_in c) out
 
 abbrev put-group-μ-loop : put-group-lts.decreases-loop
-put-group-μ-loop s d kind form text numbers h depth c₀ out₀ t₀ c out t = length t
+put-group-μ-loop s d kind form text sizes h depth c₀ out₀ t₀ c out t = length t
 
 put-group-loop-holds : (t : ℕ) → put-group-lts.Need-loop-init (put-group-calls t) (put-group-at t) put-group.Post put-group-Inv-loop put-group-μ-loop
 put-group-loop-holds t c =
@@ -363,21 +364,21 @@ put-group-loop-less t c = search rules
 put-group-loop-again : (t : ℕ) → put-group-lts.Need-loop-preserved (put-group-calls t) (put-group-at t) put-group.Post put-group-Inv-loop put-group-μ-loop
 put-group-loop-again t c =
     let at-passed = c.before.before in
-    let at_depth = at-passed.before.before.before.before in
-    let at-loop = at_depth.before.before in
-    rest_past at-loop.loop.invariant (omega arith) _ at_depth.particle_depth.ensures _ at-passed.is-passed.ensures (omega arith) c.before.if3.true
+    let at-depth = at-passed.before.before.before.before in
+    let at-loop = at-depth.before.before in
+    rest_past at-loop.loop.invariant (omega arith) _ at-depth.particle_depth.ensures _ at-passed.is-passed.ensures (omega arith) c.before.if3.true
 
 put-group-put-member-requires : (t : ℕ) → put-group-lts.Need-put-member-requires (put-group-calls t) (put-group-at t) put-group.Post put-group-Inv-loop put-group-μ-loop
 put-group-put-member-requires t c κs =
     let at-if3 = c.before.before in
     let at-passed = at-if3.before in
-    let at_depth = at-passed.before.before.before.before in
-    let at-loop = at_depth.before.before in
+    let at-depth = at-passed.before.before.before.before in
+    let at-loop = at-depth.before.before in
     let start = at-loop.before.before.before in
     let a = start.args in
     let q = start.requires.1.1 in
     let i = at-loop.loop.invariant in
-    let here = rest_here at-loop.loop.invariant (omega arith) _ at_depth.particle_depth.ensures _ at-passed.is-passed.ensures at-if3.if3.false in
+    let here = rest_here at-loop.loop.invariant (omega arith) _ at-depth.particle_depth.ensures _ at-passed.is-passed.ensures at-if3.if3.false in
     let fewer : 4 * length at-loop.loop.t.now < 4 * length a.s.now + 1 = omega (arith, i.short) in (
       omega (arith, rank_particles a.h (4 * length at-loop.loop.t.now) (4 * length a.s.now + 1) fewer),
       (omega (arith, here), omega arith, record { width = q.width; room = i.room; text = q.text; attributes = q.attributes; deep = q.deep }),
@@ -403,10 +404,10 @@ put-group-loop-again-2 t c =
     let at-put-member = c.before.before.before.before.before in
     let at-else = at-put-member.before.before.before in
     let at-passed = at-else.before in
-    let at_depth = at-passed.before.before.before.before in
-    let at-loop = at_depth.before.before in
-    let here = rest_here at-loop.loop.invariant (omega arith) _ at_depth.particle_depth.ensures _ at-passed.is-passed.ensures at-else.if3.false in
-    rest_on at-loop.loop.invariant (omega arith) _ at_depth.particle_depth.ensures here (omega arith) at-put-member.put-member.ensures c.before.enum_told.given.1
+    let at-depth = at-passed.before.before.before.before in
+    let at-loop = at-depth.before.before in
+    let here = rest_here at-loop.loop.invariant (omega arith) _ at-depth.particle_depth.ensures _ at-passed.is-passed.ensures at-else.if3.false in
+    rest_on at-loop.loop.invariant (omega arith) _ at-depth.particle_depth.ensures here (omega arith) at-put-member.put-member.ensures c.before.enum_told.given.1
 
 put-group-enum-told-2 : (t : ℕ) → put-group-lts.Need-enum-told-2 (put-group-calls t) (put-group-at t) put-group.Post put-group-Inv-loop put-group-μ-loop
 put-group-enum-told-2 t c = search rules
@@ -423,10 +424,10 @@ put-group-returns-3 t c =
     let at-put-member = c.before.before.before.before in
     let at-else = at-put-member.before.before.before in
     let at-passed = at-else.before in
-    let at_depth = at-passed.before.before.before.before in
-    let at-loop = at_depth.before.before in
-    let here = rest_here at-loop.loop.invariant (omega arith) _ at_depth.particle_depth.ensures _ at-passed.is-passed.ensures at-else.if3.false in
-    rest_first at-loop.loop.invariant (omega arith) _ at_depth.particle_depth.ensures here (omega arith) at-put-member.put-member.ensures c.enum-told2.given.1
+    let at-depth = at-passed.before.before.before.before in
+    let at-loop = at-depth.before.before in
+    let here = rest_here at-loop.loop.invariant (omega arith) _ at-depth.particle_depth.ensures _ at-passed.is-passed.ensures at-else.if3.false in
+    rest_first at-loop.loop.invariant (omega arith) _ at-depth.particle_depth.ensures here (omega arith) at-put-member.put-member.ensures c.enum-told2.given.1
 
 put-group-same-length-4 : (t : ℕ) → put-group-lts.Need-same-length-4 (put-group-calls t) (put-group-at t) put-group.Post put-group-Inv-loop put-group-μ-loop
 put-group-same-length-4 t c = c.before.loop.invariant.long
@@ -445,9 +446,9 @@ put-member-returns t c =
     let at-read-particle = c.before.before in
     let start = at-read-particle.before.before.before in
     let a = start.args in
-    none_written (version_of_filling a.numbers.now) (width_in a.numbers.now) (defs_in a.form.now) (parts_in a.form.now) (attrs_in a.form.now)
-    (count_in a.numbers.now) (rows_lent a.numbers.now) a.text.now.now a.h a.depth _
-    (member_skips (rows_lent a.numbers.now) a.d a.s.now _ at-read-particle.read-particle.ensures _ c.before.skips.ensures c.if1.true)
+    none_written (version_of_filling a.sizes.now) (width_in a.sizes.now) (defs_in a.form.now) (parts_in a.form.now) (attrs_in a.form.now)
+    (count_in a.sizes.now) a.text.now.now a.h a.depth _
+    (member_skips a.d a.s.now _ at-read-particle.read-particle.ensures _ c.before.skips.ensures c.if1.true)
 
 put-member-enum-known-what : (t : ℕ) → put-member-lts.Need-enum-known-what (put-member-calls t) (put-member-at t) put-member.Post
 put-member-enum-known-what t c = search rules
@@ -490,37 +491,60 @@ put-member-returns-2 t c =
     let at-read-particle = at-skips.before in
     let start = at-read-particle.before.before.before in
     let a = start.args in
-    none_written (version_of_filling a.numbers.now) (width_in a.numbers.now) (defs_in a.form.now) (parts_in a.form.now) (attrs_in a.form.now)
-    (count_in a.numbers.now) (rows_lent a.numbers.now) a.text.now.now a.h a.depth _
-    (member_group (rows_lent a.numbers.now) a.d a.s.now _ at-read-particle.read-particle.ensures _ at-skips.skips.ensures at-if1.if1.false _ _
-    at-what2.what2.given.1 _ refl
-    ∙ group_none (rows_lent a.numbers.now) _ _ (no_element_filled (rows_lent a.numbers.now) _ (a.d + 1) _ (sym c.before.needs-no-element.ensures ∙ c.if2.true)))
+    none_written (version_of_filling a.sizes.now) (width_in a.sizes.now) (defs_in a.form.now) (parts_in a.form.now) (attrs_in a.form.now)
+    (count_in a.sizes.now) a.text.now.now a.h a.depth _
+    (member_empty a.d a.s.now _ at-read-particle.read-particle.ensures _ at-skips.skips.ensures at-if1.if1.false _ _
+    at-what2.what2.given.1 _ refl (no_element_filled _ (a.d + 1) _ (sym c.before.needs-no-element.ensures ∙ c.if2.true)))
 
-put-member-add-group-part : (t : ℕ) → put-member-lts.Need-overflow-add-group-part (put-member-calls t) (put-member-at t) put-member.Post
-put-member-add-group-part t c = search rules
+put-member-enum-told : (t : ℕ) → put-member-lts.Need-enum-told (put-member-calls t) (put-member-at t) put-member.Post
+put-member-enum-told t c = search rules
 
-put-member-group-part-requires : (t : ℕ) → put-member-lts.Need-group-part-requires (put-member-calls t) (put-member-at t) put-member.Post
-put-member-group-part-requires t c κs = search rules
+put-member-enum-told-2 : (t : ℕ) → put-member-lts.Need-enum-told-2 (put-member-calls t) (put-member-at t) put-member.Post
+put-member-enum-told-2 t c = search rules
+
+put-member-add-accepts-nothing : (t : ℕ) → put-member-lts.Need-overflow-add-accepts-nothing (put-member-calls t) (put-member-at t) put-member.Post
+put-member-add-accepts-nothing t c = search rules
+
+put-member-accepts-nothing-requires : (t : ℕ) → put-member-lts.Need-accepts-nothing-requires (put-member-calls t) (put-member-at t) put-member.Post
+put-member-accepts-nothing-requires t c κs = search rules
+
+put-member-returns-3 : (t : ℕ) → put-member-lts.Need-returns-3 (put-member-calls t) (put-member-at t) put-member.Post
+put-member-returns-3 t c =
+    let at-accepts-nothing = c.before in
+    let at-choice = at-accepts-nothing.before in
+    let at-what2 = at-choice.before.before.before.before.before.before in
+    let at-if1 = at-what2.before.before in
+    let at-skips = at-if1.before in
+    let at-read-particle = at-skips.before in
+    let start = at-read-particle.before.before.before in
+    let a = start.args in
+    none_written (version_of_filling a.sizes.now) (width_in a.sizes.now) (defs_in a.form.now) (parts_in a.form.now) (attrs_in a.form.now)
+    (count_in a.sizes.now) a.text.now.now a.h a.depth _
+    (member_nothing_lem a.d a.s.now _ at-read-particle.read-particle.ensures _ at-skips.skips.ensures at-if1.if1.false _ _
+    at-what2.what2.given.1 _ refl _ (filled_choice _ _ at-choice.enum-told2.given.1 at-accepts-nothing.accepts-nothing.ensures) c.if3.true)
 
 put-member-add-put-group : (t : ℕ) → put-member-lts.Need-overflow-add-put-group (put-member-calls t) (put-member-at t) put-member.Post
 put-member-add-put-group t c = search rules
 
 put-member-put-group-requires : (t : ℕ) → put-member-lts.Need-put-group-requires (put-member-calls t) (put-member-at t) put-member.Post
 put-member-put-group-requires t c κs =
-    let at-group-part = c.before.before in
-    let start = at-group-part.before.before.before.before.before.before.before.before.before.before.before.before in
+    let at-what2 = c.before.before.before.before.before.before.before in
+    let start = at-what2.before.before.before.before.before.before.before in
     let a = start.args in
-    let q = start.requires.1.2 in
-    let part = at-group-part.group-part.result.now in
-    let fewer : 4 * length part + 1 < 4 * length a.s.now =
-    omega (arith, at-group-part.group-part.ensures.short, length-take (length a.s.now - particle_size) (drop particle_size a.s.now), length-drop particle_size a.s.now) in
-    (omega (arith, rank_particles a.h (4 * length part + 1) (4 * length a.s.now) fewer), (omega arith, q))
+    let q = start.requires.1.2 in (
+      omega (
+        arith,
+        rank_particles a.h (4 * length (take (length a.s.now - particle_size) (drop particle_size a.s.now)) + 1) (4 * length a.s.now)
+            (omega (arith, length-take (length a.s.now - particle_size) (drop particle_size a.s.now), length-drop particle_size a.s.now)),
+      ),
+      (omega arith, q),
+    )
 
 put-member-same-length : (t : ℕ) → put-member-lts.Need-same-length (put-member-calls t) (put-member-at t) put-member.Post
 put-member-same-length t c = search rules
 
-put-member-returns-3 : (t : ℕ) → put-member-lts.Need-returns-3 (put-member-calls t) (put-member-at t) put-member.Post
-put-member-returns-3 t c =
+put-member-returns-4 : (t : ℕ) → put-member-lts.Need-returns-4 (put-member-calls t) (put-member-at t) put-member.Post
+put-member-returns-4 t c =
     let at-put-definition = c.before.before in
     let at-what = at-put-definition.before.before.before.before in
     let at-if1 = at-what.before.before in
@@ -528,29 +552,34 @@ put-member-returns-3 t c =
     let at-read-particle = at-skips.before in
     let start = at-read-particle.before.before.before in
     let a = start.args in
-    one_written (version_of_filling a.numbers.now) (width_in a.numbers.now) (defs_in a.form.now) (parts_in a.form.now) (attrs_in a.form.now)
-    (count_in a.numbers.now) (rows_lent a.numbers.now) a.text.now.now a.h a.depth _ _
-    (member_element (rows_lent a.numbers.now) a.d a.s.now _ at-read-particle.read-particle.ensures _ at-skips.skips.ensures at-if1.if1.false _
+    one_written (version_of_filling a.sizes.now) (width_in a.sizes.now) (defs_in a.form.now) (parts_in a.form.now) (attrs_in a.form.now)
+    (count_in a.sizes.now) a.text.now.now a.h a.depth _ _
+    (member_element a.d a.s.now _ at-read-particle.read-particle.ensures _ at-skips.skips.ensures at-if1.if1.false _
     at-what.what.given.1)
     at-put-definition.put-definition.ensures
 
 put-member-same-length-2 : (t : ℕ) → put-member-lts.Need-same-length-2 (put-member-calls t) (put-member-at t) put-member.Post
 put-member-same-length-2 t c = search rules
 
-put-member-returns-4 : (t : ℕ) → put-member-lts.Need-returns-4 (put-member-calls t) (put-member-at t) put-member.Post
-put-member-returns-4 t c =
+-- the group is a LIST, or a CHOICE that does not accept nothing
+put-member-returns-5 : (t : ℕ) → put-member-lts.Need-returns-5 (put-member-calls t) (put-member-at t) put-member.Post
+put-member-returns-5 t c =
     let at-put-group = c.before.before in
-    let at-group-part = at-put-group.before.before.before in
-    let at-what2 = at-group-part.before.before.before.before.before in
+    let at-match2 = at-put-group.before.before.before in
+    let at-what2 = at-match2.before.before.before.before.before in
     let at-if1 = at-what2.before.before in
     let at-skips = at-if1.before in
     let at-read-particle = at-skips.before in
     let start = at-read-particle.before.before.before in
     let a = start.args in
-    same_written (version_of_filling a.numbers.now) (width_in a.numbers.now) (defs_in a.form.now) (parts_in a.form.now) (attrs_in a.form.now)
-    (count_in a.numbers.now) (rows_lent a.numbers.now) a.text.now.now a.h a.depth _ _
-    (member_group (rows_lent a.numbers.now) a.d a.s.now _ at-read-particle.read-particle.ensures _ at-skips.skips.ensures at-if1.if1.false _ _
-    at-what2.what2.given.1 _ refl ∙ at-group-part.group-part.ensures.filled)
+    same_written (version_of_filling a.sizes.now) (width_in a.sizes.now) (defs_in a.form.now) (parts_in a.form.now) (attrs_in a.form.now)
+    (count_in a.sizes.now) a.text.now.now a.h a.depth _ _
+    (⊎_elim
+    (λ w. member_group a.d a.s.now _ at-read-particle.read-particle.ensures _ at-skips.skips.ensures at-if1.if1.false _ _
+    at-what2.what2.given.1 _ refl false (filled_list _ _ w.1.given.1) refl)
+    (λ w. member_group a.d a.s.now _ at-read-particle.read-particle.ensures _ at-skips.skips.ensures at-if1.if1.false _ _
+    at-what2.what2.given.1 _ refl _ (filled_choice _ _ w.1.given.1 w.2.ensures) w.3.left)
+    at-match2.match2.branch)
     at-put-group.put-group.ensures
 
 pub +put-below-put-definition-put-group-put-member-spec : {M : Type 1} → statement M
@@ -636,11 +665,14 @@ pub +put-below-put-definition-put-group-put-member-spec : {M : Type 1} → state
     (put-member-add-needs-no-element t)
     (put-member-needs-no-element-requires t)
     (put-member-returns-2 t)
-    (put-member-add-group-part t)
-    (put-member-group-part-requires t)
+    (put-member-enum-told t)
+    (put-member-enum-told-2 t)
+    (put-member-add-accepts-nothing t)
+    (put-member-accepts-nothing-requires t)
+    (put-member-returns-3 t)
     (put-member-add-put-group t)
     (put-member-put-group-requires t)
     (put-member-same-length t)
-    (put-member-returns-3 t)
-    (put-member-same-length-2 t)
     (put-member-returns-4 t)
+    (put-member-same-length-2 t)
+    (put-member-returns-5 t)

@@ -1,8 +1,7 @@
 -- `filling::put_any` meets its contract: in each case of `what` the rows that are written are those of `changeFilled`
 -- (`nothing-filled`, `definition-filled`, `attribute-filled`, `particles-filled` of FillingLaws).
 use native.Mathlib.Omega.{arith}
-use Rattle.least_member.specs.Counting.{width_in, count_in, version_of_filling, rows_lent}
-use Rattle.filling.specs.Parts.{defs_in, parts_in, attrs_in}
+use Rattle.filling.specs.Parts.{defs_in, parts_in, attrs_in, width_in, count_in, version_of_filling}
 use Rattle.filling.proofs.FillingLaws.{nothing_filled, definition_filled_lem, attribute_filled, particles_filled, filled_definition, filled_attribute, filled_particles}
 use borrow.Author.Rules.{rules}
 use Rattle.filling.proofs.put_any.Statement.{statement}
@@ -47,8 +46,8 @@ returns : tie.Need-returns
 returns c =
     let start = c.before.before.before in
     let a = start.args in
-    nothing_filled (version_of_filling a.numbers.now) (width_in a.numbers.now) a.h (defs_in a.form.now) (parts_in a.form.now) (attrs_in a.form.now)
-    (count_in a.numbers.now) (rows_lent a.numbers.now) a.what a.text.now.now a.depth c.enum_told.given.1
+    nothing_filled (version_of_filling a.sizes.now) (width_in a.sizes.now) a.h (defs_in a.form.now) (parts_in a.form.now) (attrs_in a.form.now)
+    (count_in a.sizes.now) a.what a.text.now.now a.depth c.enum_told.given.1
 
 same_length : tie.Need-same-length
 same_length c = search rules
@@ -59,8 +58,8 @@ returns-2 c =
     let at-what = at-put-definition.before.before.before.before in
     let start = at-what.before.before.before in
     let a = start.args in
-    definition_filled_lem (version_of_filling a.numbers.now) (width_in a.numbers.now) a.h (defs_in a.form.now) (parts_in a.form.now)
-    (attrs_in a.form.now) (count_in a.numbers.now) (rows_lent a.numbers.now) a.what a.text.now.now a.depth _ at-what.what.given.1
+    definition_filled_lem (version_of_filling a.sizes.now) (width_in a.sizes.now) a.h (defs_in a.form.now) (parts_in a.form.now)
+    (attrs_in a.form.now) (count_in a.sizes.now) a.what a.text.now.now a.depth _ at-what.what.given.1
     at-put-definition.put-definition.ensures
 
 same-length-2 : tie.Need-same-length-2
@@ -72,8 +71,8 @@ returns-3 c =
     let at-what2 = at-put-row.before.before.before.before.before.before in
     let start = at-what2.before.before.before in
     let a = start.args in
-    attribute_filled (version_of_filling a.numbers.now) (width_in a.numbers.now) a.h (defs_in a.form.now) (parts_in a.form.now)
-    (attrs_in a.form.now) (count_in a.numbers.now) (rows_lent a.numbers.now) a.what a.text.now.now a.depth _ at-what2.what2.given.1 at-put-row.put-row.ensures
+    attribute_filled (version_of_filling a.sizes.now) (width_in a.sizes.now) a.h (defs_in a.form.now) (parts_in a.form.now)
+    (attrs_in a.form.now) (count_in a.sizes.now) a.what a.text.now.now a.depth _ at-what2.what2.given.1 at-put-row.put-row.ensures
 
 same-length-3 : tie.Need-same-length-3
 same-length-3 c = search rules
@@ -84,8 +83,8 @@ returns-4 c =
     let at-what3 = at-put-members.before.before.before.before in
     let start = at-what3.before.before.before in
     let a = start.args in
-    particles_filled (version_of_filling a.numbers.now) (width_in a.numbers.now) a.h (defs_in a.form.now) (parts_in a.form.now)
-    (attrs_in a.form.now) (count_in a.numbers.now) (rows_lent a.numbers.now) a.what a.text.now.now a.depth _ _ _ at-what3.what3.given.1
+    particles_filled (version_of_filling a.sizes.now) (width_in a.sizes.now) a.h (defs_in a.form.now) (parts_in a.form.now)
+    (attrs_in a.form.now) (count_in a.sizes.now) a.what a.text.now.now a.depth _ _ _ at-what3.what3.given.1
     at-put-members.put-members.ensures
 
 pub put-any-spec : {M : Type 1} → statement M

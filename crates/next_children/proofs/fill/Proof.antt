@@ -51,8 +51,8 @@ returns c =
     let at-nexts-of = at-fill-after.before.before in
     let start = at-nexts-of.before.before.before in
     let a = start.args in
-    line_filled a.n (all_members a.ms.now) a.t.now a.at _ _ at-fill-after.fill-after.ensures
-    at-fill-after.fill-after.auto.1.1.1.0 start.requires.0
+    line_filled a.n (all_members a.ms.now) a.t.now a.at _ _ at-fill-after.fill_after.ensures
+    at-fill-after.fill_after.auto.1.1.1.0 start.requires.0
     start.requires.1 _ at-nexts-of.nexts-of.ensures _ c.given.ensures
 
 pub fill_spec : {M : Type 1} → statement M

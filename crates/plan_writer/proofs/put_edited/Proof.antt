@@ -22,7 +22,7 @@ add_start c = search rules
 
 walk-rows-requires : tie.Need-walk-rows-requires
 walk-rows-requires c κs = let start = c.before.before.before.before.before.before.before in
-    (start.requires.0, start.requires.1, start.requires.2, start.requires.3, omega (arith, c.before.header-size.ensures, form_short start.requires.4 (width_within start.args.store.now)))
+    (start.requires.0, start.requires.1, start.requires.2, omega (arith, c.before.header-size.ensures, form_short start.requires.3 (width_within start.args.store.now)))
 
 sub-count : tie.Need-overflow-sub-count
 sub-count c = search rules
@@ -34,12 +34,12 @@ put-form-requires c κs =
     let start = at-width-in.before.before.before.before.before in
     let a = start.args in
     let h = holds a.store.now start.requires.0 in
-    let within = limit_within _ _ _ _ _ start.requires.5 in
+    let within = limit_within _ _ _ _ _ start.requires.4 in
     let walked = at-walk-rows.walk_rows.ensures in
-    let serial = serial_is h start.requires.4 a.plan a.text.now within walked in
-    let count = count_is h start.requires.4 a.plan a.text.now within walked in (
+    let serial = serial_is h start.requires.3 a.plan a.text.now within walked in
+    let count = count_is h start.requires.3 a.plan a.text.now within walked in (
       at-width-in.width_in_lem.ensures.small,
-      heads_of start.requires.4 (width_within a.store.now) (omega (arith, serial, within.serials)) (omega (arith, count, within.rows)),
+      heads_of start.requires.3 (width_within a.store.now) (omega (arith, serial, within.serials)) (omega (arith, count, within.rows)),
     )
 
 same_length : tie.Need-same-length
@@ -54,9 +54,9 @@ returns c =
     let start = at-width-in.before.before.before.before.before in
     let a = start.args in
     let h = holds a.store.now start.requires.0 in
-    let within = limit_within _ _ _ _ _ start.requires.5 in
+    let within = limit_within _ _ _ _ _ start.requires.4 in
     let walked = at-walk-rows.walk_rows.ensures in
-    edited_laid h start.requires.4 a.plan a.text.now within walked (omega (arith, sized.header-size.ensures)) at-width-in.width_in_lem.ensures at-put-form.put-form.ensures
+    edited_laid h start.requires.3 a.plan a.text.now within walked (omega (arith, sized.header-size.ensures)) at-width-in.width_in_lem.ensures at-put-form.put-form.ensures
 
 pub put-edited-spec : {M : Type 1} → statement M
 put-edited-spec =

@@ -24,7 +24,7 @@ slice-aggregate-walk-rows c = search rules
 walk-rows-requires : tie.Need-walk-rows-requires
 walk-rows-requires c κs =
     let start = c.before.before.before.before.before.before in
-    (start.requires.0, start.requires.1, start.requires.2, sized_of c.before.one-row-each.ensures start.requires.3, omega arith)
+    (start.requires.0, start.requires.1, sized_of c.before.one-row-each.ensures start.requires.2, omega arith)
 
 returns : tie.Need-returns
 returns c =
@@ -36,8 +36,8 @@ returns c =
     let a = start.args in
     let times = times_of a.store.now start.requires.0 a.plan a.text.now at_each.one-row-each.ensures in
     let filled = fill_of a.plan a.text.now (bodies_of a.store.now) 0 in
-    filled_past at_width.width_in_lem.ensures a.form a.room _ _ filled times start.requires.6
-    at-walk.walk_rows.ensures start.requires.5 c.if1.true
+    filled_past at_width.width_in_lem.ensures a.form a.room _ _ filled times start.requires.5
+    at-walk.walk_rows.ensures start.requires.4 c.if1.true
 
 sub-places : tie.Need-overflow-sub-places
 sub-places c =
@@ -51,7 +51,7 @@ sub-places c =
     let filled = fill_of a.plan a.text.now (bodies_of a.store.now) 0 in
     omega (
       arith,
-      places_are at_width.width_in_lem.ensures a.form a.room _ _ filled times start.requires.6
+      places_are at_width.width_in_lem.ensures a.form a.room _ _ filled times start.requires.5
           at-walk.walk_rows.ensures c.before.if1.false at_next.next-serial.ensures,
     )
 
@@ -67,7 +67,7 @@ mul-new c =
     let filled = fill_of a.plan a.text.now (bodies_of a.store.now) 0 in
     omega (
       arith,
-      new_small at_width.width_in_lem.ensures a.form a.room _ _ filled times start.requires.6
+      new_small at_width.width_in_lem.ensures a.form a.room _ _ filled times start.requires.5
           at-walk.walk_rows.ensures c.before.if1.false at_next.next-serial.ensures,
     )
 
@@ -86,7 +86,7 @@ sub-limit-2 c =
     let filled = fill_of a.plan a.text.now (bodies_of a.store.now) 0 in
     omega (
       arith,
-      places_within at_width.width_in_lem.ensures a.form a.room _ _ filled times start.requires.6
+      places_within at_width.width_in_lem.ensures a.form a.room _ _ filled times start.requires.5
           at-walk.walk_rows.ensures c.before.before.if1.false at_next.next-serial.ensures,
     )
 
@@ -102,7 +102,7 @@ add-limit c =
     let filled = fill_of a.plan a.text.now (bodies_of a.store.now) 0 in
     omega (
       arith,
-      new_small at_width.width_in_lem.ensures a.form a.room _ _ filled times start.requires.6
+      new_small at_width.width_in_lem.ensures a.form a.room _ _ filled times start.requires.5
           at-walk.walk_rows.ensures c.before.before.if1.false at_next.next-serial.ensures,
     )
 
@@ -119,7 +119,7 @@ add-limit-2 c =
     omega (
       arith,
       at_next.next-serial.ensures.small,
-      new_small at_width.width_in_lem.ensures a.form a.room _ _ filled times start.requires.6
+      new_small at_width.width_in_lem.ensures a.form a.room _ _ filled times start.requires.5
           at-walk.walk_rows.ensures c.before.before.if1.false at_next.next-serial.ensures,
     )
 
@@ -136,7 +136,7 @@ returns-2 c =
     let a = start.args in
     let times = times_of a.store.now start.requires.0 a.plan a.text.now at_each.one-row-each.ensures in
     let filled = fill_of a.plan a.text.now (bodies_of a.store.now) 0 in
-    filled_counted at_width.width_in_lem.ensures a.form a.room _ _ filled times start.requires.6
+    filled_counted at_width.width_in_lem.ensures a.form a.room _ _ filled times start.requires.5
     at-walk.walk_rows.ensures c.before.before.before.if1.false at_next.next-serial.ensures c.limit.ensures
 
 pub filled-refusal-spec : {M : Type 1} → statement M

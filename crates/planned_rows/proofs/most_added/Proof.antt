@@ -21,22 +21,25 @@ attribute-body-requires c κs = search rules
 row-body-requires : tie.Need-row-body-requires
 row-body-requires c κs = search rules
 
+cast-most-added : tie.Need-overflow-cast-most-added
+cast-most-added c = search rules
+
 most-added-requires : tie.Need-most-added-requires
 most-added-requires c κs =
-    let at-attribute-body = c.before in
+    let bodies = c.before in
+    let at-attribute-body = bodies.before in
     let at-particle-body = at-attribute-body.before in
     let at-definition-body = at-particle-body.before in
     let at-shape-of = at-definition-body.before in
     let start = at-shape-of.before.before.before in
     let q = start.requires.0 in
     let x = reads_of at-shape-of.shape_of.ensures at-definition-body.definition-body.ensures at-particle-body.particle-body.ensures
-    at-attribute-body.attribute-body.ensures c.row-body.ensures in
-    let k = start.requires.1 in
-    (walk_ready q k x start.requires.2 start.requires.3, walk_asked q k x, walk_whole q k x, rows_few q k x)
+    at-attribute-body.attribute-body.ensures bodies.row-body.ensures in
+    (walk_ready q x start.requires.1 start.requires.2, walk_asked q x, walk_whole q x, rows_few q x)
 
 returns : tie.Need-returns
 returns c =
-    let bodies = c.before in
+    let bodies = c.before.before in
     let at-attribute-body = bodies.before in
     let at-particle-body = at-attribute-body.before in
     let at-definition-body = at-particle-body.before in
@@ -44,7 +47,7 @@ returns c =
     let start = at-shape-of.before.before.before in
     let x = reads_of at-shape-of.shape_of.ensures at-definition-body.definition-body.ensures at-particle-body.particle-body.ensures
     at-attribute-body.attribute-body.ensures bodies.row-body.ensures in
-    rows_added start.requires.0 start.requires.1 x start.args.plan start.args.text.now c.most-added.ensures
+    rows_added start.requires.0 x start.args.plan start.args.text.now c.most-added.ensures
 
 pub most-added-spec : {M : Type 1} → statement M
 most-added-spec =
@@ -55,5 +58,6 @@ most-added-spec =
     particle-body-requires
     attribute-body-requires
     row-body-requires
+    cast-most-added
     most-added-requires
     returns)

@@ -45,7 +45,7 @@ filled-refusal-requires : tie.Need-filled-refusal-requires
 filled-refusal-requires c κs =
     let at-most-added = c.before.before.before.before.before.before in
     let start = at-most-added.before.before.before.before in
-    (start.requires.0, start.requires.1, start.requires.2, start.requires.3, start.requires.4, omega (arith, c.if2.true), at-most-added.most-added.ensures.one (omega (arith, c.if2.true)))
+    (start.requires.0, start.requires.1, start.requires.2, start.requires.3, omega (arith, c.if2.true), at-most-added.most-added.ensures.one (omega (arith, c.if2.true)))
 
 returns-2 : tie.Need-returns-2
 returns-2 c = c.filled-refusal.ensures

@@ -1,6 +1,6 @@
 -- `planned_rows::walk_rows` meets its contract: what is read is the store's (`reads_of` of WalkLaws), so that `walk`
--- may be called (`walk-ready`, `walk-asked`, `walk-whole`, `walk-room`), and what it writes by the counts that stop are
--- the rows after the plan (`walk_from`).
+-- may be called (`walk-ready`, `walk-asked`, `walk-whole`, `walk-room`), and the rows that it writes are those after
+-- the plan (`walk_from`).
 use Rattle.planned_rows.proofs.WalkLaws.{reads_of, walk_ready, walk_asked, walk_whole, walk_room, walk_from_lem}
 use borrow.Author.Rules.{rules}
 use Rattle.planned_rows.proofs.walk_rows.Statement.{statement}
@@ -24,9 +24,12 @@ row-body-requires c κs = search rules
 next-serial-requires : tie.Need-next-serial-requires
 next-serial-requires c κs = search rules
 
+cast-walk : tie.Need-overflow-cast-walk
+cast-walk c = search rules
+
 walk-requires : tie.Need-walk-requires
 walk-requires c κs =
-    let at-next-serial = c.before in
+    let at-next-serial = c.before.before in
     let at-row-body = at-next-serial.before in
     let at-attribute-body = at-row-body.before in
     let at-particle-body = at-attribute-body.before in
@@ -36,9 +39,7 @@ walk-requires c κs =
     let q = start.requires.0 in
     let x = reads_of at-shape-of.shape_of.ensures at-definition-body.definition-body.ensures at-particle-body.particle-body.ensures
     at-attribute-body.attribute-body.ensures at-row-body.row-body.ensures in
-    let k = start.requires.1 in
-    let ready = walk_ready q k x start.requires.2 start.requires.3 in
-    (ready, walk_asked q k x, walk_whole q k x, walk_room ready.width start.requires.4 at-next-serial.next-serial.ensures)
+    (walk_ready q x start.requires.1 start.requires.2, walk_asked q x, walk_whole q x, walk_room at-shape-of.shape_of.ensures.sized.width start.requires.3 at-next-serial.next-serial.ensures)
 
 same_length : tie.Need-same-length
 same_length c = search rules
@@ -46,7 +47,7 @@ same_length c = search rules
 returns : tie.Need-returns
 returns c =
     let at-walk = c.before.before in
-    let at-next-serial = at-walk.before.before in
+    let at-next-serial = at-walk.before.before.before in
     let at-row-body = at-next-serial.before in
     let at-attribute-body = at-row-body.before in
     let at-particle-body = at-attribute-body.before in
@@ -55,7 +56,7 @@ returns c =
     let start = at-shape-of.before.before.before.before in
     let x = reads_of at-shape-of.shape_of.ensures at-definition-body.definition-body.ensures at-particle-body.particle-body.ensures
     at-attribute-body.attribute-body.ensures at-row-body.row-body.ensures in
-    walk_from_lem start.requires.0 start.requires.1 x start.args.plan start.args.text.now at-next-serial.next-serial.ensures at-walk.walk.ensures
+    walk_from_lem start.requires.0 x start.args.plan start.args.text.now at-next-serial.next-serial.ensures at-walk.walk.ensures
 
 pub walk-rows-spec : {M : Type 1} → statement M
 walk-rows-spec =
@@ -67,6 +68,7 @@ walk-rows-spec =
     attribute-body-requires
     row-body-requires
     next-serial-requires
+    cast-walk
     walk-requires
     same_length
     returns)

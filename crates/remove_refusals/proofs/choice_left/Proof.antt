@@ -59,7 +59,7 @@ returns c =
     let a = start.args in
     left_read a.part.now a.start a.p a.d at-particles-from.particles_from_lem.ensures at_particle.read-particle.ensures c.skips.ensures
     at-particle-size.particle-size.ensures at-times.times.ensures at-particles-from2.particles-from2.ensures at-window.window.ensures
-    at-accepts-nothing.accepts_nothing.ensures
+    at-accepts-nothing.accepts-nothing.ensures
     at-particles-from3.particles-from3.ensures c.before.accepts-nothing2.ensures
 
 pub choice-left-spec : {M : Type 1} → statement M

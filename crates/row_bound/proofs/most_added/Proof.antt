@@ -11,7 +11,7 @@ use Rattle.row_bound.proofs.most_added.Tie as tie
 returns : tie.Need-returns
 returns c = let start = c.before.before.before.before.before.before.before in
     let a = start.args in
-    bounds_none a.numbers.now a.defs.now a.parts.now a.attrs.now a.rows.now a.count a.plan a.text.now start.requires.1
+    bounds_none a.version a.w a.n a.defs.now a.parts.now a.a a.attrs.now a.rows.now a.count a.plan a.text.now start.requires.1
     (not-true a.plan.fills c.if1.true)
 
 filling-rows-requires : tie.Need-filling-rows-requires
@@ -20,30 +20,27 @@ filling-rows-requires c κs = search rules
 returns-2 : tie.Need-returns-2
 returns-2 c = let start = c.before.before.before.before.before.before.before.before.before in
     let a = start.args in
-    bounds_empty a.numbers.now a.defs.now a.parts.now a.attrs.now a.rows.now a.count a.plan a.text.now start.requires.1
+    bounds_empty a.version a.w a.n a.defs.now a.parts.now a.a a.attrs.now a.rows.now a.count a.plan a.text.now start.requires.1
     c.before.filling-rows.ensures.0 c.if2.true
-
-element-copy-out-places : tie.Need-element-copy-out-places
-element-copy-out-places c = search rules
 
 places-requires : tie.Need-places-requires
 places-requires c κs = search rules
 
 mul-all : tie.Need-overflow-mul-all
 mul-all c =
-    let at-filling-rows = c.before.before.before in
+    let at-filling-rows = c.before.before in
     omega (arith, product_few at-filling-rows.filling-rows.ensures.1 c.places.ensures.1)
 
 returns-3 : tie.Need-returns-3
 returns-3 c =
-    let at-filling-rows = c.before.before.before in
+    let at-filling-rows = c.before.before in
     let start = at-filling-rows.before.before.before.before.before.before.before.before in
     let a = start.args in
     let counted = at-filling-rows.filling-rows.ensures in
-    bounds_places a.numbers.now a.defs.now a.parts.now a.attrs.now a.rows.now a.count a.plan a.text.now start.requires.1
+    bounds_places a.version a.w a.n a.defs.now a.parts.now a.a a.attrs.now a.rows.now a.count a.plan a.text.now start.requires.1
     counted.0 counted.1 c.places.ensures
 
 pub most-added-spec : {M : Type 1} → statement M
 most-added-spec =
     tie.close
-    (tie.spec returns filling-rows-requires returns-2 element-copy-out-places places-requires mul-all returns-3)
+    (tie.spec returns filling-rows-requires returns-2 places-requires mul-all returns-3)

@@ -22,7 +22,7 @@ returns c =
     let start = at-is-taken.before.before.before.before.before in
     let a = start.args in
     let p = plan_in a.p.now a.marks.now in
-    let fill = fill_in a.numbers.now a.form.now p a.text.now in
+    let fill = fill_in a.sizes.now a.form.now p a.text.now in
     came_taken p a.text.now fill a.o a.h a.row.now start.requires.1 _ at-is-taken.is_taken_lem.ensures c.before.if1.true
     _ c.taken.ensures
 
@@ -74,7 +74,7 @@ returns-3 c =
     let start = at-is-taken.before.before.before.before.before in
     let a = start.args in
     let p = plan_in a.p.now a.marks.now in
-    let fill = fill_in a.numbers.now a.form.now p a.text.now in
+    let fill = fill_in a.sizes.now a.form.now p a.text.now in
     let none = ap (λ (z : Bool). a.o.due && z) (sym at-is-below.is_below.ensures) ∙ at-if2.if2.false in
     let row = row_kept p a.text.now a.h a.row.now start.requires.1 _ at-moved-index.moved_index_lem.ensures.0
     at-put-row.put-row.ensures in

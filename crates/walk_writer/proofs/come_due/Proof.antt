@@ -67,7 +67,7 @@ returns c =
     let start = at-is-filled.before.before.before.before.before in
     let a = start.args in
     let p = plan_in a.p.now a.marks.now in
-    let fill = fill_in a.numbers.now a.form.now p a.text.now in
+    let fill = fill_in a.sizes.now a.form.now p a.text.now in
     let row = row_kept p a.text.now a.h a.row.now start.requires.1 _ at-moved-index.moved_index_lem.ensures.0
     at-put-row.put-row.ensures in
     came_kept p a.text.now fill a.o a.h a.row.now start.requires.1 false (sym start.requires.3) refl _

@@ -5,7 +5,7 @@ use Prim.Native.Nat.{ℕ, ◌-◌, ◌*◌, ◌≤◌}
 use native.Mathlib.Omega.{arith}
 use mathlib.Core.Path.{ap, refl}
 use Rattle.rules.specs.Layout.{row_size}
-use Rattle.least_member.specs.Counting.{width_in}
+use Rattle.filling.specs.Parts.{width_in}
 use Rattle.row_writer.proofs.BlockLaws.{size_split, block_small}
 use Rattle.walk_writer.proofs.WalkLaws.{rows_within, rows_old, rows_at, passes_block, passes_row}
 use borrow.Author.Rules.{rules}
@@ -26,7 +26,7 @@ plain-rows-requires c κs =
     let at-minus = c.before in
     let start = at-minus.before.before.before.before.before in
     let a = start.args in
-    let w = width_in a.numbers.now in
+    let w = width_in a.sizes.now in
     let ready = start.requires.0 in
     let most = a.count - at-minus.minus.result in
     let l : most ≤ a.count = omega arith in
@@ -47,7 +47,7 @@ put-block-requires c κs =
     let at-minus = at-plain-rows.before.before in
     let start = at-minus.before.before.before.before.before in
     let a = start.args in
-    let w = width_in a.numbers.now in
+    let w = width_in a.sizes.now in
     let run = at-plain-rows.plain_rows in
     let k = run.result.count in
     let l : k ≤ a.count = omega (arith, run.ensures.few) in
@@ -95,7 +95,7 @@ step-requires c κs =
     let start = at-plain-rows.before.before.before.before.before.before.before in
     let a = start.args in
     let run = at-plain-rows.plain_rows in
-    let row = rows_at (width_in a.numbers.now) run.result.count a.count a.rows.now (omega (arith, run.ensures.few, at-if1.if1.false)) start.requires.1
+    let row = rows_at (width_in a.sizes.now) run.result.count a.count a.rows.now (omega (arith, run.ensures.few, at-if1.if1.false)) start.requires.1
     at-row-size.row-size.ensures refl at-window.window.ensures in
     (start.requires.0, row, run.ensures.near, at-put-block.put-block.ensures.room start.requires.4)
 

@@ -4,9 +4,9 @@
 use Rattle.walk_writer.proofs.StepLaws.{owed_put, owed_none}
 use mathlib.Core.Path.{ap, sym, subst}
 use Rattle.filling.specs.declared.Filling.{Filling}
-use Rattle.filling.specs.Parts.{Indexed}
+use Rattle.filling.specs.Parts.{defs_in, parts_in, attrs_in, width_in, count_in, version_of_filling, size_in, Indexed}
 use Rattle.row_writer.proofs.WrittenLaws.{written_as}
-use Rattle.walk_writer.specs.Step.{fill_lent}
+use Rattle.walk_writer.specs.Step.{fill_with}
 use borrow.Author.Rules.{rules}
 use Rattle.walk_writer.proofs.put_owed.Statement.{statement}
 use Rattle.walk_writer.proofs.put_owed.Tie as tie
@@ -42,7 +42,11 @@ returns c =
     let at-if1 = at-filling-of.before in
     let start = at-if1.before.before.before in
     let a = start.args in
-    let same = ap (λ (what : Filling). fill_lent a.numbers.now a.form.now what a.t4.now a.depth) (sym at-filling-of.filling-of.ensures) in
+    let s = a.sizes.now in
+    let f = a.form.now in
+    let same = ap
+    (λ (what : Filling). fill_with (version_of_filling s) (width_in s) (size_in s) (defs_in f) (parts_in f) (count_in s) (attrs_in f) what a.t4.now a.depth)
+    (sym at-filling-of.filling-of.ensures) in
     owed_put at-if1.if1.true (written_as same at-put-any.put-any.ensures)
 
 returns-2 : tie.Need-returns-2

@@ -1,6 +1,6 @@
 -- `walk_writer::put_row` meets its contract: the case split is on `valued`: the row is written with the text
 -- (`with_value` of StepLaws) or with its own value (`with-own`).
-use Rattle.walk_writer.proofs.StepLaws.{with_value_lem, with_own_lem}
+use Rattle.walk_writer.proofs.StepLaws.{with_value_lem, with_own}
 use borrow.Author.Rules.{rules}
 use Rattle.walk_writer.proofs.put_row.Statement.{statement}
 use Rattle.walk_writer.proofs.put_row.Tie as tie
@@ -31,7 +31,7 @@ returns-2 c =
     let at-if1 = at-put-kept.before.before in
     let start = at-if1.before.before.before.before in
     let a = start.args in
-    with_own_lem a.index a.text.now a.row.now at-if1.if1.false at-put-kept.put-kept.ensures
+    with_own a.index a.text.now a.row.now at-if1.if1.false at-put-kept.put-kept.ensures
 
 pub put-row-spec : {M : Type 1} → statement M
 put-row-spec =

@@ -21,7 +21,7 @@ returns c =
     let start = at-read-head.before.before.before.before.before in
     let a = start.args in
     let p = plan_in a.p.now a.marks.now in
-    let fill = fill_in a.numbers.now a.form.now p a.text.now in
+    let fill = fill_in a.sizes.now a.form.now p a.text.now in
     step_gone p a.text.now fill a.o _ a.row.now (seen start.requires.1 at-read-head.read_head.ensures) _
     c.before.gone.ensures c.if1.true
 
@@ -68,7 +68,7 @@ returns-2 c =
     let start = at-read-head.before.before.before.before.before in
     let a = start.args in
     let p = plan_in a.p.now a.marks.now in
-    let fill = fill_in a.numbers.now a.form.now p a.text.now in
+    let fill = fill_in a.sizes.now a.form.now p a.text.now in
     step_on p a.text.now fill a.o _ a.row.now (seen start.requires.1 at-read-head.read_head.ensures) _
     at-gone.gone.ensures at-if1.if1.false _ at-closes.closes.ensures _ at-minus.minus.ensures _ at-closed.closed.ensures
     at-put-owed.put-owed.ensures at-come.come.ensures

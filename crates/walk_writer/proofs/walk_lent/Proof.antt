@@ -5,7 +5,7 @@ use mathlib.Core.Path.{refl, ◌∙◌}
 use native.Mathlib.Omega.{arith}
 use Rattle.rules.specs.Layout.{row_size}
 use Rattle.rules.specs.Decode.{read_row, read_many}
-use Rattle.least_member.specs.Counting.{width_in}
+use Rattle.filling.specs.Parts.{width_in}
 use Rattle.row_walk.specs.Walk.{walked, at_first}
 use Rattle.row_walk.specs.Lent.{plan_in}
 use Rattle.walk_writer.specs.Step.{fill_in, WalkOn}
@@ -17,13 +17,13 @@ use Rattle.walk_writer.proofs.walk_lent.Tie as tie
 
 -- once what comes of the rows that are left is written, all is
 abbrev invariant-loop : tie.invariant-loop
-invariant-loop form numbers p marks rows count text out₀ size t₀ m₀ at₀ o₀ out t m at o =
+invariant-loop form sizes p marks rows count text out₀ size t₀ m₀ at₀ o₀ out t m at o =
     let plan = plan_in p marks in
-    let fill = fill_in numbers form plan text in
-    WalkOn (width_in numbers) plan text fill (walked plan text fill (at_first plan) (read_many read_row (row_size (width_in numbers)) count rows)) at₀ out₀ t m at o out
+    let fill = fill_in sizes form plan text in
+    WalkOn (width_in sizes) plan text fill (walked plan text fill (at_first plan) (read_many read_row (row_size (width_in sizes)) count rows)) at₀ out₀ t m at o out
 
 abbrev decreases-loop : tie.decreases-loop
-decreases-loop form numbers p marks rows count text out₀ size t₀ m₀ at₀ o₀ out t m at o = m
+decreases-loop form sizes p marks rows count text out₀ size t₀ m₀ at₀ o₀ out t m at o = m
 
 element-copy-out-row-size : tie.Need-element-copy-out-row-size invariant-loop decreases-loop
 element-copy-out-row-size c = search rules

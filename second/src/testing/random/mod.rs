@@ -2,7 +2,6 @@
 //! seeded [`crate::rng::Rng`], so a seed tells a whole run.
 
 pub mod calls;
-pub mod choices;
 pub mod damage;
 pub mod documents;
 pub mod forms;

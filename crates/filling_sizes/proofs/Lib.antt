@@ -1,3 +1,0 @@
-pub mod RoundLaws
-pub mod NumberLaws
-pub mod StopLaws

@@ -1,3 +1,0 @@
-pub mod MemberLaws
-pub mod CountLaws
-pub mod LeastLaws

@@ -1,2 +1,0 @@
-pub mod AcceptingLaws
-pub mod NeededLaws

@@ -1,5 +1,0 @@
-pub mod SmallestWords
-pub mod FilledRows
-pub mod SmallestInstances
-pub mod EarliestMember
-pub mod Theorem

@@ -1,1 +1,2 @@
 //! What several calls ask and answer, as definitions and laws only: see specs/ and proofs/.
+#![tactic(auto)]

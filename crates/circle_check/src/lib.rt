@@ -1,4 +1,5 @@
 //! Circles of definitions: whether a definition reaches itself through models, and the height of each that does not.
+#![tactic(auto)]
 ghost use Rattle.std.specs.Prelude.{◌≡◌, ◌↔◌, true, ℕ, ◌<◌, ◌≤◌};
 ghost use Rattle.rules.specs.Bytes.{all};
 ghost use Rattle.circle_check.specs.Members.{elements_of, members_in};
@@ -9,7 +10,7 @@ use layout::MAX_DEFINITIONS;
 
 /// Whether every chain of members ends, and the height of each definition, which is more than that of each member; 0
 /// for one from which a chain does not end.
-#[derive(Drop)]
+#[derive(Clone, Copy)]
 pub struct Heights {
     pub fit: bool,
     pub of: [u8; MAX_DEFINITIONS],

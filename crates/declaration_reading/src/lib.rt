@@ -1,4 +1,5 @@
 //! The form that the declarations of a text say, read into the bytes of a store without rows.
+#![tactic(auto)]
 ghost use Rattle.std.specs.Prelude.{◌≡◌, true, ◌&&◌, [], ◌∷◌, ◌+◌, ◌*◌, ◌<◌, ◌≤◌, leb, length};
 ghost use Rattle.rules.specs.WellFormed.{within_ceilings};
 ghost use Rattle.rules.specs.Layout.{flat_bytes};
@@ -41,7 +42,7 @@ fn line_span(text: &[u8]) -> usize
 // ---- the form, measured
 
 // What declarations say of a form, counted, and whether no particle is too deep.
-#[derive(Drop)]
+#[derive(Clone, Copy)]
 struct Counts {
     definitions: usize,
     particles: usize,
@@ -150,7 +151,7 @@ fn put_owned(w: usize, owners: usize, line: &[u8], out: &mut [u8], at: usize) ->
 }
 
 // One of the bodies: the definitions, the particles over so many definitions, the attributes at a width.
-#[derive(Drop)]
+#[derive(Clone, Copy)]
 enum Body {
     Definitions,
     Particles(usize),

@@ -1,4 +1,5 @@
 //! A store without one of its definitions: the bodies that are left, with their indices renumbered.
+#![tactic(auto)]
 ghost use Rattle.std.specs.Prelude.{◌≡◌, true, ℕ, suc, ◌-◌, ◌≤◌, ◌<◌, length};
 ghost use Rattle.rules.specs.Bytes.{any};
 ghost use Rattle.rules.specs.Layout.{particle_size, attribute_size, row_size, definition_bytes, particle_bytes, attribute_bytes, row_bytes, each, flat_bytes};
@@ -174,7 +175,7 @@ fn attributes_below(w: usize, body: &[u8], count: usize, i: u32) -> usize
 // ---- the bodies of a store
 
 // The records of a body that are of one definition: from number `start` on, before number `end`.
-#[derive(Drop)]
+#[derive(Clone, Copy)]
 struct Range {
     start: usize,
     end: usize,

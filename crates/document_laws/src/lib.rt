@@ -1,2 +1,3 @@
 //! Documents there and back, as definitions and proofs only: rows are read off their text, and a text is that of its
 //! rows.
+#![tactic(auto)]

@@ -1,4 +1,5 @@
 //! The plans of changes 11 to 16, which change documents.
+#![tactic(auto)]
 ghost use Rattle.std.specs.Prelude.{◌≡◌, true, false};
 ghost use Rattle.rules.specs.Passing.{passes};
 ghost use Rattle.rules.specs.Refusal.{no_element};

@@ -1,4 +1,5 @@
 //! The rows that the documents of a text say, judged: some rows at a time, written into an array.
+#![tactic(auto)]
 ghost use Rattle.std.specs.Prelude.{◌≡◌, true};
 ghost use Rattle.rules.specs.Passing.{passes};
 ghost use Rattle.form_table.specs.Table.{TableOf};
@@ -17,7 +18,7 @@ const NEXT: usize = 4097;
 // ---- documents
 
 /// Whether the rows of documents fit, and how many they are if they do.
-#[derive(Drop)]
+#[derive(Clone, Copy)]
 pub struct Judged {
     pub fits: bool,
     pub rows: usize,

@@ -1,4 +1,5 @@
 //! The rows that the documents of a text say, written.
+#![tactic(auto)]
 ghost use Rattle.std.specs.Prelude.{◌≡◌, true, false, ◌<◌, ◌≤◌, length};
 ghost use Rattle.rules.specs.Layout.{row_bytes, each};
 ghost use Rattle.codec.specs.Laid.{Laid};
@@ -54,7 +55,7 @@ fn put_made(
 // ---- rows, token by token
 
 /// Where documents go on: how many definitions are opened, whether a start tag is not ended, how many rows came before.
-#[derive(Drop)]
+#[derive(Clone, Copy)]
 pub struct Progress {
     pub depth: usize,
     pub tag: bool,
@@ -74,7 +75,7 @@ pub fn start() -> Progress
 
 /// What was read and written: whether every token is exact, how many bytes they are, where the documents go on, and
 /// where the next row is written.
-#[derive(Drop)]
+#[derive(Clone, Copy)]
 pub struct Written {
     pub exact: bool,
     pub size: usize,

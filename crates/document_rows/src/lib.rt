@@ -1,4 +1,5 @@
 //! The rows of a store by their serials, the rows right below a row, and whether a model takes them.
+#![tactic(auto)]
 ghost use Rattle.std.specs.Prelude.{◌≡◌, true, false, map, length, suc, ◌<◌, ◌≤◌};
 ghost use Rattle.rules.specs.Bytes.{any};
 ghost use Rattle.rules.specs.Lines.{serial_at, children_of, is_element_row, is_text_row};
@@ -154,7 +155,7 @@ pub fn parent_at(w: usize, rows: &[u8], count: usize, element: u32) -> usize
 const LINE: usize = 67;
 
 // Whether names were stepped over, and 1 and the last of them.
-#[derive(Drop)]
+#[derive(Clone, Copy)]
 struct Ran {
     fits: bool,
     last: usize,

@@ -1,4 +1,5 @@
 //! The tokens of the documents of a text.
+#![tactic(auto)]
 ghost use Rattle.std.specs.Prelude.{◌≡◌, ◌&&◌, false, [], ◌≤◌, eqb, length};
 ghost use Rattle.rules.specs.Bytes.{same};
 ghost use Rattle.rules.specs.Decode.{read_attribute};
@@ -10,7 +11,7 @@ use text_scan::Unescaped;
 
 /// What stands at a place of a text. `exact`: as it is printed; `sort`: the code of the row that it makes, 0 if it
 /// makes none; `length`: of its value, which is in a buffer.
-#[derive(Drop)]
+#[derive(Clone, Copy)]
 pub struct Token {
     pub exact: bool,
     pub size: usize,
@@ -158,7 +159,7 @@ fn text_token(w: usize, text: &[u8], value: &mut [u8]) -> Token
 }
 
 // What is told of a value in quotes: whether it is exact, and its length as it stands and as it is meant.
-#[derive(Drop)]
+#[derive(Clone, Copy)]
 struct Quoted {
     exact: bool,
     raw: usize,

@@ -1,4 +1,5 @@
 //! The filling of a definition, and of an attribute: the rows that a change makes.
+#![tactic(auto)]
 ghost use Rattle.std.specs.Prelude.{◌≡◌, ◌+◌, ◌<◌, ◌≤◌, [], ◌∷◌, length, get_or};
 ghost use Rattle.rules.specs.Decode.{quantifier_of};
 ghost use Rattle.rules.specs.Model.{skips, neutral, nothing, unless, filling};
@@ -20,7 +21,7 @@ use rules::GroupKind;
 
 /// What a change fills with: nothing, a definition by its index, one row of an attribute by its index, or a group of a
 /// kind by the number of its first member in the particle body and the depth of its members.
-#[derive(Drop)]
+#[derive(Clone, Copy)]
 pub enum Filling {
     Nothing,
     Definition(usize),

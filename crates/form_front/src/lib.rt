@@ -1,10 +1,11 @@
 //! The form that a text declares, confirmed: it prints as the front of the text.
+#![tactic(auto)]
 ghost use Rattle.std.specs.Prelude.{◌≡◌, true};
 ghost use Rattle.rules.specs.Passing.{passes};
 ghost use Rattle.form_front.specs.Front.{FrontOf};
 
 /// Whether a store stands at the front of a text, and how long it is there.
-#[derive(Drop)]
+#[derive(Clone, Copy)]
 pub struct Front {
     pub stands: bool,
     pub length: usize,

@@ -1,4 +1,5 @@
 //! The test of the header: version, next serial, counts, offsets and the length that they give.
+#![tactic(auto)]
 ghost use Rattle.std.specs.Prelude.{◌≡◌};
 ghost use Rattle.rules.specs.Decode.{sized};
 ghost use Rattle.layout.specs.Bodies.{Width};

@@ -1,5 +1,6 @@
 //! The layout of a store, said once for every width of a value: its shape,
 //! its bodies, the records of a body, the fields of a record.
+#![tactic(auto)]
 ghost use Rattle.std.specs.Prelude.{◌≡◌, min, ◌+◌, ◌-◌, ◌*◌, ◌<◌, take, drop};
 ghost use Rattle.rules.specs.Layout.{value_width, header_size, definition_size, particle_size, attribute_size, row_size};
 ghost use Rattle.rules.specs.Decode.{number_at, version_in, next_serial, read_definition, read_particle, read_attribute, read_row, definition_count, particle_count, attribute_count, row_count};
@@ -429,7 +430,7 @@ pub fn through_rows(w: usize, n: usize, p: usize, a: usize, m: usize) -> usize
 }
 
 /// What the header says, and the width of a value by the version.
-#[derive(Drop)]
+#[derive(Clone, Copy)]
 pub struct Shape {
     pub version: u32,
     pub width: usize,

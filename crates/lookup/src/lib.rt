@@ -1,4 +1,5 @@
 //! The value of the attribute or text row with a serial, as a part of the store.
+#![tactic(auto)]
 ghost use Rattle.std.specs.Prelude.{◌≡◌, ◌+◌, ◌<◌, length};
 ghost use Rattle.lookup.specs.Bodies.{RowsBegin, RowPlace, from_rows, row_part};
 ghost use Rattle.lookup.specs.Finding.{Looks, Hands, found_on, found_row_at};
@@ -40,7 +41,7 @@ fn row(store: &[u8], i: usize) -> &[u8]
 
 /// A look-up's answer: 0, and where the value stands in the store; or a refusal's number, 0 and 0.
 #[repr(C)]
-#[derive(Drop)]
+#[derive(Clone, Copy)]
 pub struct Found {
     pub number: u32,
     pub start: usize,

@@ -1,4 +1,5 @@
 //! Content models: a definition's part of the particle body.
+#![tactic(auto)]
 pub mod place;
 
 ghost use Rattle.std.specs.Prelude.{◌≡◌, ◌≤◌, length, drop};
@@ -11,13 +12,13 @@ ghost use Rattle.model.specs.Particle.{what_of, particle_of, kind_in};
 use rules::{GroupKind, Quantifier};
 
 /// An element, by its definition's index, or a group with the number of its direct members.
-#[derive(Drop)]
+#[derive(Clone, Copy)]
 pub enum What {
     Element(usize),
     Group(GroupKind, usize),
 }
 
-#[derive(Drop)]
+#[derive(Clone, Copy)]
 pub struct Particle {
     pub what: What,
     pub quantifier: Quantifier,

@@ -1,4 +1,5 @@
 //! What a place leads to in a model of a store that passes, and what the changes 3 to 8 ask of the list that holds it.
+#![tactic(auto)]
 ghost use Rattle.std.specs.Prelude.{◌≡◌, true, ◌*◌, ◌<◌, ◌≤◌, drop};
 ghost use Rattle.rules.specs.Layout.{particle_size, how_many};
 ghost use Rattle.rules.specs.Edit.{same_kind};
@@ -14,7 +15,7 @@ use rules::{GroupKind, Quantifier};
 
 /// What a place leads to in a model: an element or a group with its kind and its number of members. Each with the list
 /// that holds it, its particle and its quantifier.
-#[derive(Drop)]
+#[derive(Clone, Copy)]
 pub enum Picked {
     Element(Holder, usize, Quantifier),
     Group(Holder, usize, Quantifier, GroupKind, usize),
@@ -23,7 +24,7 @@ pub enum Picked {
 
 /// The number of the first refusal that applies to a change of a model; if it
 /// is 0, the list that holds the place and its particle.
-#[derive(Drop)]
+#[derive(Clone, Copy)]
 pub struct Located {
     pub number: u32,
     pub holder: Holder,

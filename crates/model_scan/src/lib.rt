@@ -1,4 +1,5 @@
 //! The particles of a content model, by its text: measured and written.
+#![tactic(auto)]
 ghost use Rattle.std.specs.Prelude.{◌≡◌, true, false, [], suc, ◌+◌, ◌*◌, ◌%◌, ◌<◌, ◌≤◌, length};
 ghost use Rattle.rules.specs.Layout.{each, particle_bytes, particle_size};
 ghost use Rattle.codec.specs.Laid.{Laid};
@@ -46,7 +47,7 @@ fn members(signs: usize) -> u8
 }
 
 // What is seen of a group by its text: its code, how many members, the code of its quantifier.
-#[derive(Drop)]
+#[derive(Clone, Copy)]
 struct Group {
     kind: u8,
     count: u8,
@@ -89,7 +90,7 @@ fn starts_here(x: u8, inside: bool) -> bool
 }
 
 /// How many particles a content model has, and whether none is too deep.
-#[derive(Drop)]
+#[derive(Clone, Copy)]
 pub struct Measured {
     pub count: usize,
     pub shallow: bool,

@@ -1,4 +1,5 @@
 //! The particles of a form after an edit of one model: changes 3 to 8.
+#![tactic(auto)]
 ghost use Rattle.std.specs.Prelude.{◌≡◌, ◌+◌, ◌*◌, ◌%◌, ◌<◌, length, take, drop};
 ghost use Rattle.rules.specs.Layout.{particle_size, each, particle_bytes, group_code};
 ghost use Rattle.rules.specs.Edit.{insert, quantify, convert};
@@ -13,7 +14,7 @@ use layout::PARTICLE_SIZE;
 use rules::{GroupKind, Quantifier};
 
 /// An edit of a model at a place, elements by their definitions' indices.
-#[derive(Drop)]
+#[derive(Clone, Copy)]
 pub enum Edit {
     Insert(Quantifier, usize),
     Remove,

@@ -1,6 +1,7 @@
 //! What may come after a child, for all children at once: the facts of a model and a last child x, with a set of
 //! definition indices where `automaton` has the truth of one. And a table of these
 //! sets, so that a model is folded once and looked up afterwards.
+#![tactic(auto)]
 ghost use Rattle.std.specs.Prelude.{◌≡◌, ◌+◌, ◌<◌, ◌≤◌, length};
 ghost use Rattle.rules.specs.declared.GroupKind.TheVariants.{Sequence, Choice};
 ghost use Rattle.rules.specs.Bytes.{numbers};
@@ -18,7 +19,7 @@ use rules::{GroupKind, Quantifier};
 
 /// Of a part of a model and a last child x: whether it accepts nothing, what can be a word's first, whether x can be a
 /// word's last, and what can follow x directly.
-#[derive(Drop)]
+#[derive(Clone, Copy)]
 pub struct Nexts {
     pub nothing: bool,
     pub first: u64,

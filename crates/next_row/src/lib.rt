@@ -1,4 +1,5 @@
 //! Whether a row may come next at a level, and whether a level may end.
+#![tactic(auto)]
 ghost use Rattle.std.specs.Prelude.{◌≡◌, ◌<◌, ◌≤◌, eqb, length};
 ghost use Rattle.rules.specs.Decode.{read_row};
 ghost use Rattle.layout.specs.Bodies.{Width};
@@ -10,7 +11,7 @@ ghost use Rattle.next_row.specs.Judge.{child_may, children_end, attribute_may, r
 /// A place that is open. `holds`: 0 documents, 1 the rows below an element, 2 nothing. Of an element: its definition, 1
 /// and the first attribute that may still come (0: none may), and 1 and
 /// its last child's index (0: no child yet).
-#[derive(Drop)]
+#[derive(Clone, Copy)]
 pub struct Level {
     pub holds: u8,
     pub index: u8,

@@ -1,8 +1,9 @@
 //! A store that is carried through the sixteen changes, each of which prints its number.
+#![tactic(auto)]
 use store_writer::Answer;
 
 /// The first `length` bytes are the store.
-#[derive(Drop)]
+#[derive(Clone, Copy)]
 pub struct Play {
     pub bytes: [u8; 2048],
     pub length: usize,

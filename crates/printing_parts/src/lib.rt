@@ -1,4 +1,5 @@
 //! What the text of a store is made of: the records of its form, by their numbers, and their names.
+#![tactic(auto)]
 ghost use Rattle.std.specs.Prelude.{◌≡◌, ◌<◌};
 ghost use Rattle.rules.specs.Decode.{name_at};
 ghost use Rattle.printing_parts.specs.Parts.{Named, definition_part, particle_part, attribute_part, names_of, attribute_names_of};
@@ -52,7 +53,7 @@ pub fn attribute_name_of(store: &[u8], i: usize) -> &[u8]
 // ---- depths
 
 /// Where a writer that follows depths came to: the place in the buffer, and the number of the next record.
-#[derive(Drop)]
+#[derive(Clone, Copy)]
 pub struct Walked {
     pub at: usize,
     pub next: usize,

@@ -3,6 +3,7 @@
 //! of at most 4,096 bytes, the bytes before the tree body and the rows left give the whole walk's answer.' The first part
 //! of a walk hands on 130 bytes and nothing else: if the answer hung on more, fewer answers than places would be the
 //! same.
+#![tactic(auto)]
 ghost use Rattle.std.specs.Prelude.{◌≡◌, true, ◌*◌, ◌<◌, ◌≤◌, length};
 ghost use Rattle.rules.specs.Layout.{row_size};
 ghost use Rattle.layout.specs.Bodies.{width_of};
@@ -14,7 +15,7 @@ use sample_stores::{CLUB, LEGS};
 // ---- the two parts of a walk
 
 // What the first part leaves: whether its rows may all come, and the state after them.
-#[derive(Drop)]
+#[derive(Clone, Copy)]
 struct Stop {
     came: bool,
     state: [u8; STATE],

@@ -1,4 +1,5 @@
 //! How many rows the walk with a plan adds at most: the rows of one filling at each place that may be filled.
+#![tactic(auto)]
 ghost use Rattle.std.specs.Prelude.{◌≡◌, ◌+◌, ◌*◌, ◌≤◌, length};
 ghost use Rattle.rules.specs.Layout.{row_size};
 ghost use Rattle.rules.specs.Decode.{read_row, read_many};
@@ -16,7 +17,7 @@ use store_limits::ROWS_PAST_CEILING;
 
 /// The rows of one filling, counted up to one past the ceiling, or 0 if none is put in; and the most rows of all of
 /// them.
-#[derive(Drop)]
+#[derive(Clone, Copy)]
 pub struct Most {
     pub one: usize,
     pub all: usize,

@@ -1,5 +1,6 @@
 //! What a change does to the tree rows: the plan that changes 2 to 16 share, and the tests of one row that the walk
 //! over the rows makes by it.
+#![tactic(auto)]
 ghost use Rattle.std.specs.Prelude.{◌≡◌, [], ◌+◌, ◌≤◌};
 ghost use Rattle.row_walk.specs.Walk.{matches, is_later, spared, shifted, moved_index, is_below_taken, closes, closed, is_below, is_taken, is_filled, after_taken, at_first};
 ghost use Rattle.row_walk.specs.Lent.{which_in, plan_in};
@@ -9,7 +10,7 @@ use filling::Filling;
 
 /// Some rows: none; every row, and what stands above the documents; that alone; the elements of a definition; the rows
 /// of an attribute; the element with a serial.
-#[derive(Drop)]
+#[derive(Clone, Copy)]
 pub enum Which {
     Nothing,
     Everything,
@@ -21,7 +22,7 @@ pub enum Which {
 
 /// The rows that a filling comes before: none; the row with a serial; all but the rows of attributes below a number;
 /// the elements of definitions that do not stand before a place in a model.
-#[derive(Drop)]
+#[derive(Clone, Copy)]
 pub enum Later {
     Never,
     Row(u32),
@@ -30,7 +31,7 @@ pub enum Later {
 }
 
 /// How indices from `from` on move.
-#[derive(Drop)]
+#[derive(Clone, Copy)]
 pub struct Shift {
     pub from: usize,
     pub more: usize,
@@ -42,7 +43,7 @@ pub struct Shift {
 /// stands before a place in a model, 2 if it stands at the place, else 0. `spares`: where an element at the place is
 /// the first later row, no filling comes. `keeps`: no row is taken up to the first that is later. The row with serial
 /// `set` gets the call's value (0: none does).
-#[derive(Drop)]
+#[derive(Clone, Copy)]
 pub struct Plan {
     pub above: Which,
     pub takes: Which,
@@ -59,7 +60,7 @@ pub struct Plan {
 
 /// What is open between two rows. `taking`: 0, or 1 and the depth of a row taken, whose deeper rows go. `below`: 0, or
 /// 1 and the depth of the rows right below the open row of `above`. `due`: its filling is still to come.
-#[derive(Drop)]
+#[derive(Clone, Copy)]
 pub struct Open {
     pub taking: usize,
     pub below: usize,
@@ -67,7 +68,7 @@ pub struct Open {
 }
 
 /// What the walk reads of a row.
-#[derive(Drop)]
+#[derive(Clone, Copy)]
 pub struct Head {
     pub depth: usize,
     pub sort: u8,

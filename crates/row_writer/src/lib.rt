@@ -1,4 +1,5 @@
 //! Tree rows written one after the other: new ones, and old ones that are kept.
+#![tactic(auto)]
 ghost use Rattle.std.specs.Prelude.{[], ◌∷◌, ◌*◌, ◌<◌, ◌≤◌, length};
 ghost use Rattle.rules.specs.Layout.{row_size};
 ghost use Rattle.rules.specs.Decode.{read_row, read_many};
@@ -8,7 +9,7 @@ ghost use Rattle.row_writer.specs.Written.{Written, Room, OldRow, OldRows, new_r
 
 /// Where the next row goes, how many rows may still be written, and the serial that the next new row gets. Writing into
 /// a buffer of one byte with `left` one past the ceiling counts the rows, and stops past it.
-#[derive(Drop)]
+#[derive(Clone, Copy)]
 pub struct Cursor {
     pub at: usize,
     pub left: usize,

@@ -84,6 +84,7 @@ module _ (test : Row → Bool) (k : ℕ) where
   -- a line that passes the test has a first child before it or is it
   some_first : (ls : List Line) → ((m : Line) → Memᴰ m ls → 1 ≤ m.row.serial) → (l : Line) → Memᴰ l ls → l.parent ≡ k → test l.row ≡ true → 1 ≤ serial_at 0 (children_of test k ls)
   unfolding children_of
+  some_first [] big l i e h = elim i [ ]
   some_first (m ∷ ls) big l i e h = by (eqb m.parent k && test m.row) refl (some_first ls (λ x j. big x (Memᴰ.tail j)) l) i
     where
       by : (c : Bool) → (eqb m.parent k && test m.row) ≡ c → (Memᴰ l ls → l.parent ≡ k → test l.row ≡ true → 1 ≤ serial_at 0 (children_of test k ls)) → Memᴰ l (m ∷ ls)

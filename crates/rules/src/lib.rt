@@ -1,7 +1,8 @@
 //! The types that the definitions of specs/ and the code of the crates above share.
+#![tactic(auto)]
 
 /// How often a particle may stand.
-#[derive(Drop)]
+#[derive(Clone, Copy)]
 pub enum Quantifier {
     None,
     Qmark,
@@ -10,7 +11,7 @@ pub enum Quantifier {
 }
 
 /// The kind of a group: LIST is Sequence.
-#[derive(Drop)]
+#[derive(Clone, Copy)]
 pub enum GroupKind {
     Sequence,
     Choice,
@@ -18,7 +19,7 @@ pub enum GroupKind {
 
 /// Of a part of a content model and two names x, y: it accepts nothing; y can be a word's first; x can be a word's
 /// last; y can follow x directly.
-#[derive(Drop)]
+#[derive(Clone, Copy)]
 pub struct Facts {
     pub nothing: bool,
     pub first: bool,

@@ -1,4 +1,5 @@
 //! Stores that programs try calls on.
+#![tactic(auto)]
 ghost use Rattle.std.specs.Prelude.{◌<◌};
 
 // The store that clubform leaves.

@@ -1,4 +1,5 @@
 //! The serials of the tree rows of a store: no two alike.
+#![tactic(auto)]
 ghost use Rattle.std.specs.Prelude.{◌≡◌, ◌<◌, ◌≤◌};
 ghost use Rattle.rules.specs.Bytes.{numbers};
 ghost use Rattle.rules.specs.Model.{distinct};

@@ -1,4 +1,5 @@
 //! The store that a change leaves, written whole where it keeps within the ceilings, the serials and the room.
+#![tactic(auto)]
 ghost use Rattle.std.specs.Prelude.{◌≡◌, true, ◌++◌, ◌+◌, length};
 ghost use Rattle.rules.specs.Layout.{flat_bytes};
 ghost use Rattle.rules.specs.Decode.{number_at};
@@ -21,7 +22,7 @@ use row_walk::Plan;
 
 /// 0 and the length of what was written, or the number of a refusal and 0.
 #[repr(C)]
-#[derive(Drop)]
+#[derive(Clone, Copy)]
 pub struct Answer {
     pub number: u32,
     pub length: usize,

@@ -1,1 +1,2 @@
 //! Reading a printed text into a store.
+#![tactic(auto)]

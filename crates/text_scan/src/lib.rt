@@ -1,4 +1,5 @@
 //! Words on texts: names, lines, values.
+#![tactic(auto)]
 ghost use Rattle.std.specs.Prelude.{◌≡◌, not, eqb, length, get_or, drop, ℕ, ◌+◌, ◌<◌};
 ghost use Rattle.rules.specs.WellFormed.{in_name};
 ghost use Rattle.text_scan.specs.Scan.{front_while, starts_with, escaped_at, plain_at, StandsFor, Unescapes};
@@ -50,7 +51,7 @@ pub fn starts_with(text: &[u8], word: &[u8]) -> bool
 
 // A byte of a value, and how many bytes of the text stand for it: 0 if
 // what is there is no escape.
-#[derive(Drop)]
+#[derive(Clone, Copy)]
 struct Character {
     byte: u8,
     size: usize,
@@ -91,7 +92,7 @@ fn character_at(raw: &[u8], i: usize) -> Character
 }
 
 /// Whether a text is the escape of a value, and the length of the value.
-#[derive(Drop)]
+#[derive(Clone, Copy)]
 pub struct Unescaped {
     pub exact: bool,
     pub length: usize,

@@ -1,5 +1,6 @@
 //! The one walk over the tree rows that changes 2 to 16 share: it keeps, takes with all below, gives a value, puts
 //! fillings in and renumbers, as a plan says.
+#![tactic(auto)]
 ghost use Rattle.std.specs.Prelude.{◌≡◌, false, [], ◌∷◌, ◌*◌, ◌<◌, ◌≤◌, length};
 ghost use Rattle.rules.specs.Layout.{row_size};
 ghost use Rattle.rules.specs.Decode.{read_row, read_many};
@@ -16,21 +17,21 @@ use row_walk::{Head, Open, Plan};
 use row_writer::Cursor;
 
 /// What has been written after a row, and what is open.
-#[derive(Drop)]
+#[derive(Clone, Copy)]
 pub struct Stepped {
     pub cursor: Cursor,
     pub opened: Open,
 }
 
 /// How many rows stay as they are, and what is open after them.
-#[derive(Drop)]
+#[derive(Clone, Copy)]
 pub struct PlainRun {
     pub count: usize,
     pub opened: Open,
 }
 
 /// What has been written after some rows, what is open, and how many rows they were.
-#[derive(Drop)]
+#[derive(Clone, Copy)]
 pub struct Passed {
     pub cursor: Cursor,
     pub opened: Open,

@@ -57,6 +57,7 @@ each_once (y ∷ xs) (z ∷ table) (inl (e, o)) d = (λ i. d.0 (subst (λ (w : B
 each_once (y ∷ xs) (z ∷ table) (inr o) d = each_once (y ∷ xs) table o d.1
 
 named_once : (rows : List Row) → Distinct (map name_of rows) → (r s : Row) → Memᴰ r rows → Memᴰ s rows → r.name ≡ s.name → r ≡ s
+named_once [] d r s i _ q = elim i [ ]
 named_once (x ∷ rows) d r s (Memᴰ.head e) (Memᴰ.head f) q = e ∙ sym f
 named_once (x ∷ rows) d r s (Memᴰ.head e) (Memᴰ.tail j) q = absurd (d.0 (subst (λ (z : Bytes). Memᴰ z (map name_of rows)) (sym q ∙ ap name_of e) (Memᴰ.map name_of j)))
 named_once (x ∷ rows) d r s (Memᴰ.tail i) (Memᴰ.head f) q = absurd (d.0 (subst (λ (z : Bytes). Memᴰ z (map name_of rows)) (q ∙ ap name_of f) (Memᴰ.map name_of i)))

@@ -179,6 +179,7 @@ module _ (k : ℕ) where
 
   row_filled : (fills : Row → Bool) (rs : List Row) (r : Row) → Memᴰ r rs → r.serial ≡ k → fills r ≡ true → Memᴰ k (filled_in fills rs)
   unfolding filled_in
+  row_filled fills [] r x3 e h = elim x3 [ ]
   row_filled fills (s ∷ rs) r (mathlib.Core.List.Memᴰ.head g) e h = rw (ap fills (sym g) ∙ h, filled_in) (mathlib.Core.List.Memᴰ.head (sym e ∙ ap (λ (z : Row). z.serial) g))
   row_filled fills (s ∷ rs) r (mathlib.Core.List.Memᴰ.tail i) e h = by (fills s) refl (row_filled fills rs r i e h)
     where
@@ -187,10 +188,12 @@ module _ (k : ℕ) where
       by false q m = rw (q, filled_in) m
 
 row_line : (ls : List Line) (r : Row) → Memᴰ r (rows_of ls) → (l : Line) × Memᴰ l ls × (r ≡ l.row)
+row_line [] r x' = elim x' [ ]
 row_line (l ∷ ls) r (mathlib.Core.List.Memᴰ.head e) = (l, mathlib.Core.List.Memᴰ.head refl, e)
 row_line (l ∷ ls) r (mathlib.Core.List.Memᴰ.tail i) = let (m, j, e) = row_line ls r i in (m, mathlib.Core.List.Memᴰ.tail j, e)
 
 line_row : (ls : List Line) (l : Line) → Memᴰ l ls → Memᴰ l.row (rows_of ls)
+line_row [] l x' = elim x' [ ]
 line_row (m ∷ ls) l (mathlib.Core.List.Memᴰ.head e) = mathlib.Core.List.Memᴰ.head (ap (λ (z : Line). z.row) e)
 line_row (m ∷ ls) l (mathlib.Core.List.Memᴰ.tail i) = mathlib.Core.List.Memᴰ.tail (line_row ls l i)
 

@@ -170,17 +170,20 @@ good_holds m a =
 -- a line is untaken exactly when it was made and not taken
 pub standing_made : (es : List Entry) (k : ℕ) → Memᴰ k (map serial_of (untaken es)) → Memᴰ k (map (λ (e : Entry). serial_of (line_of e)) es)
 unfolding untaken
+standing_made [] k i = elim i [ ]
 standing_made (stands l ∷ es) k (mathlib.Core.List.Memᴰ.head e) = mathlib.Core.List.Memᴰ.head e
 standing_made (stands l ∷ es) k (mathlib.Core.List.Memᴰ.tail i) = mathlib.Core.List.Memᴰ.tail (standing_made es k i)
 standing_made (taken l ∷ es) k i = mathlib.Core.List.Memᴰ.tail (standing_made es k i)
 
 pub taken_made : (es : List Entry) (k : ℕ) → Memᴰ k (taken_serials es) → Memᴰ k (map (λ (e : Entry). serial_of (line_of e)) es)
+taken_made [] k i = elim i [ ]
 taken_made (stands l ∷ es) k i = mathlib.Core.List.Memᴰ.tail (taken_made es k i)
 taken_made (taken l ∷ es) k (mathlib.Core.List.Memᴰ.head e) = mathlib.Core.List.Memᴰ.head e
 taken_made (taken l ∷ es) k (mathlib.Core.List.Memᴰ.tail i) = mathlib.Core.List.Memᴰ.tail (taken_made es k i)
 
 pub made_standing : (es : List Entry) (k : ℕ) → Memᴰ k (map (λ (e : Entry). serial_of (line_of e)) es) → (Memᴰ k (taken_serials es) → ⊥) → Memᴰ k (map serial_of (untaken es))
 unfolding untaken
+made_standing [] k x'' f = elim x'' [ ]
 made_standing (stands l ∷ es) k (mathlib.Core.List.Memᴰ.head e) f = mathlib.Core.List.Memᴰ.head e
 made_standing (stands l ∷ es) k (mathlib.Core.List.Memᴰ.tail i) f = mathlib.Core.List.Memᴰ.tail (made_standing es k i f)
 made_standing (taken l ∷ es) k (mathlib.Core.List.Memᴰ.head e) f = absurd (f (mathlib.Core.List.Memᴰ.head e))
@@ -188,6 +191,7 @@ made_standing (taken l ∷ es) k (mathlib.Core.List.Memᴰ.tail i) f = made_stan
 
 pub standing_untaken : (es : List Entry) (k : ℕ) → Distinct (map (λ (e : Entry). serial_of (line_of e)) es) → Memᴰ k (map serial_of (untaken es)) → Memᴰ k (taken_serials es) → ⊥
 unfolding untaken
+standing_untaken [] k d i j = elim i [ ]
 standing_untaken (stands l ∷ es) k d (mathlib.Core.List.Memᴰ.head e) j = d.0 (subst (λ (z : ℕ). Memᴰ z (map (λ (x : Entry). serial_of (line_of x)) es)) e (taken_made es k j))
 standing_untaken (stands l ∷ es) k d (mathlib.Core.List.Memᴰ.tail i) j = standing_untaken es k d.1 i j
 standing_untaken (taken l ∷ es) k d i (mathlib.Core.List.Memᴰ.head e) = d.0 (subst (λ (z : ℕ). Memᴰ z (map (λ (x : Entry). serial_of (line_of x)) es)) e (standing_made es k i))

@@ -28,6 +28,7 @@ module _ (ks : List ℕ) where
       (λ e. Memᴰ.tail (in_shared l ls (subst (λ (z : List ℕ). Memᴰ l z) e i))) (taken_or_passed j ls)
 
   shared_in : (l : ℕ) (ls : List ℕ) → Memᴰ l ks → Memᴰ l ls → Memᴰ l (shared ks ls)
+  shared_in l [] h x'' = elim x'' [ ]
   shared_in l (j ∷ ls) h (Memᴰ.head e) =
       subst (λ (z : List ℕ). Memᴰ l z) (sym (shared_take j ks ls (subst (λ (z : ℕ). Memᴰ z ks) e h))) (Memᴰ.head e)
   shared_in l (j ∷ ls) h (Memᴰ.tail i) =

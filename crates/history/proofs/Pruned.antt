@@ -22,6 +22,7 @@ in_append x [] ys i = inr i
 in_append x (z ∷ xs) ys i = ⊎_elim (λ e. inl (mathlib.Core.List.Memᴰ.head e)) (λ j. ⊎_elim (λ a. inl (mathlib.Core.List.Memᴰ.tail a)) (λ b. inr b) (in_append x xs ys j)) (mathlib.Core.List.Memᴰ.cases_cons i)
 
 pub in_left : {A : Type 0} (x : A) (xs ys : List A) → Memᴰ x xs → Memᴰ x (xs ++ ys)
+in_left {A = A} x [] ys x'' = elim x'' [ ]
 in_left x (z ∷ xs) ys (mathlib.Core.List.Memᴰ.head e) = mathlib.Core.List.Memᴰ.head e
 in_left x (z ∷ xs) ys (mathlib.Core.List.Memᴰ.tail i) = mathlib.Core.List.Memᴰ.tail (in_left x xs ys i)
 

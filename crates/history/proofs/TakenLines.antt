@@ -87,15 +87,18 @@ revalue_old k v (stands l ∷ es) m i =
 
 -- ---- serials
 pub taken_in : (k : ℕ) (es : List Entry) → Memᴰ k (taken_serials es) → Memᴰ k (entry_serials es)
+taken_in k [] i = elim i [ ]
 taken_in k (stands l ∷ es) i = mathlib.Core.List.Memᴰ.tail (taken_in k es i)
 taken_in k (taken l ∷ es) (mathlib.Core.List.Memᴰ.head e) = mathlib.Core.List.Memᴰ.head e
 taken_in k (taken l ∷ es) (mathlib.Core.List.Memᴰ.tail i) = mathlib.Core.List.Memᴰ.tail (taken_in k es i)
 
 pub line_serial : (l : Line) (ls : List Line) → Memᴰ l ls → Memᴰ (serial_of l) (line_serials ls)
+line_serial l [] x' = elim x' [ ]
 line_serial l (m ∷ ls) (mathlib.Core.List.Memᴰ.head e) = mathlib.Core.List.Memᴰ.head (ap (λ (z : Line). serial_of z) e)
 line_serial l (m ∷ ls) (mathlib.Core.List.Memᴰ.tail i) = mathlib.Core.List.Memᴰ.tail (line_serial l ls i)
 
 pub serial_line : (k : ℕ) (ls : List Line) → Memᴰ k (line_serials ls) → (l : Line) × Memᴰ l ls × (k ≡ serial_of l)
+serial_line k [] x' = elim x' [ ]
 serial_line k (m ∷ ls) (mathlib.Core.List.Memᴰ.head e) = (m, mathlib.Core.List.Memᴰ.head refl, e)
 serial_line k (m ∷ ls) (mathlib.Core.List.Memᴰ.tail i) = let r = serial_line k ls i in (r.0, mathlib.Core.List.Memᴰ.tail r.1, r.2)
 
@@ -108,6 +111,7 @@ either k (taken l ∷ es) i = ⊎_elim (λ e. inl (mathlib.Core.List.Memᴰ.head
 
 pub not_both : (k : ℕ) (es : List Entry) → Distinct (entry_serials es) → Memᴰ k (line_serials (untaken es)) → Memᴰ k (taken_serials es) → ⊥
 unfolding untaken
+not_both k [] d i j = elim i [ ]
 not_both k (stands l ∷ es) d (mathlib.Core.List.Memᴰ.head e) j = d.0 (subst (λ (z : ℕ). Memᴰ z (entry_serials es)) e (taken_in k es j))
 not_both k (stands l ∷ es) d (mathlib.Core.List.Memᴰ.tail i) j = not_both k es d.1 i j
 not_both k (taken l ∷ es) d i (mathlib.Core.List.Memᴰ.head e) = d.0 (subst (λ (z : ℕ). Memᴰ z (entry_serials es)) e (untaken_in k es i))
@@ -121,6 +125,7 @@ distinct_untaken (taken l ∷ es) d = distinct_untaken es d.1
 
 -- lines with the same serial are the same
 pub same_serial : (ls : List Line) → Distinct (line_serials ls) → (l m : Line) → Memᴰ l ls → Memᴰ m ls → serial_of l ≡ serial_of m → l ≡ m
+same_serial [] d l m x4 _ q = elim x4 [ ]
 same_serial (x ∷ ls) d l m (mathlib.Core.List.Memᴰ.head e) (mathlib.Core.List.Memᴰ.head f) q = e ∙ sym f
 same_serial (x ∷ ls) d l m (mathlib.Core.List.Memᴰ.head e) (mathlib.Core.List.Memᴰ.tail j) q = absurd (d.0 (subst (λ (z : ℕ). Memᴰ z (line_serials ls)) (sym q ∙ ap (λ (z : Line). serial_of z) e) (line_serial m ls j)))
 same_serial (x ∷ ls) d l m (mathlib.Core.List.Memᴰ.tail i) (mathlib.Core.List.Memᴰ.head f) q = absurd (d.0 (subst (λ (z : ℕ). Memᴰ z (line_serials ls)) (q ∙ ap (λ (z : Line). serial_of z) f) (line_serial l ls i)))

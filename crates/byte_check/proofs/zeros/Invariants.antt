@@ -1,0 +1,18 @@
+use Prim.Native.Nat.{ℕ, ◌-◌}
+use mathlib.Core.Path.{◌≡◌, refl}
+use mathlib.Core.Bool.{true}
+use lib.ListN.{length, take}
+use native.Mathlib.Omega.{arith}
+use borrow.Author.Tests.{not-true, not-false}
+use borrow.Author.Rules.{rules}
+use lib.Dec.{eqb}
+use Rattle.byte_check.specs.Zeros.{zeros}
+use Rattle.byte_check.proofs.TestLaws.{part_on, part_off, part_end}
+use Rattle.byte_check.proofs.zeros.Given as goal
+
+-- the first i bytes are zeros
+abbrev pub invariant-loop-i : goal.invariant-loop-i
+invariant-loop-i l = zeros (take l.i l.s) ≡ true
+
+abbrev pub decreases-loop-i : goal.decreases-loop-i
+decreases-loop-i l = length l.s - l.i

@@ -1,0 +1,15 @@
+-- `clubform::calls::add_finisher` meets its contract: the rules, computed, say that this call on stage 8 writes stage 9
+-- (`add-finisher` of `accepted` in Stages); so its number is 0, as `expect` requires, and the buffer holds stage 9
+-- (`answered` of Laws).
+use borrow.Author.Rules.{rules}
+use Rattle.clubform.proofs.Stages.{accepted}
+use Rattle.clubform.proofs.Laws.{answered}
+use Rattle.clubform.proofs.calls.add_finisher.Goals as goal
+
+pub expect-requires : goal.expect-requires
+expect-requires c =
+    (answered accepted.add_finisher c.requires c.add_element-answer.ensures).number_is
+
+pub returns : goal.returns
+returns c =
+    (answered accepted.add_finisher c.requires c.add_element-answer.ensures).holds

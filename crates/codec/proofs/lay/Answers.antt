@@ -1,0 +1,31 @@
+-- `codec::lay` meets its contract: each step stores the byte at i and so keeps the invariant (`lay_step` of Writers).
+-- At the end no byte is left to lay (`drop_of_length-le` of ListN), so that the invariant is the contract.
+use Rattle.codec.proofs.Writers.{lay_step}
+use borrow.Author.Rules.{rules}
+use mathlib.Core.Path.{◌≡◌, ◌∙◌}
+use mathlib.Core.List.{[]}
+use Prim.Native.Nat.{◌≤◌, ◌-◌}
+use native.Mathlib.Omega.{arith}
+use lib.ListN.{length, drop, drop_of_length-le}
+use lib.Seq.{sets}
+use Rattle.codec.proofs.lay.Goals as goal
+
+pub overflow_add-i : goal.overflow_add-i
+overflow_add-i c = omega arith
+
+pub loop-i-smaller : goal.loop-i-smaller
+loop-i-smaller c = omega arith
+
+pub loop-i-preserved : goal.loop-i-preserved
+loop-i-preserved c =
+    (
+      omega arith,
+      lay_step c.args.src.now c.loop-i.out c.store.new.out _ c.loop-i.i _ (omega arith) (cc) c.store.ensures
+          c.loop-i.invariant.1,
+      c.store.auto.out ∙ c.loop-i.invariant.2,
+    )
+
+pub returns : goal.returns
+returns c =
+    let e : drop c.loop-i.i c.args.src.now ≡ [] = drop_of_length-le _ {i = c.loop-i.i} (omega arith) in
+    rw e at c.loop-i.invariant.1

@@ -1,0 +1,13 @@
+use lib.ListN.{length}
+use Rattle.declaration_reading.proofs.LineLaws.{cut, cut_none, span_rest}
+use Rattle.declaration_reading.proofs.CountLaws.{Counting, counting_start, counting_room, counting_on, counting_done}
+use native.Mathlib.Omega.{arith}
+use borrow.Author.Rules.{rules}
+use Rattle.declaration_reading.proofs.count_declarations.Given as goal
+
+-- with what is left, the counts are those of the whole
+abbrev pub invariant-loop-t : goal.invariant-loop-t
+invariant-loop-t l = Counting l.text l.definitions l.particles l.attributes l.shallow l.t
+
+abbrev pub decreases-loop-t : goal.decreases-loop-t
+decreases-loop-t l = length l.t

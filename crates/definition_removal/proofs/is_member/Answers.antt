@@ -1,0 +1,12 @@
+-- `definition_removal::is_member` meets its contract: the test is the definition of `isMember`, with the sort and the
+-- index that the two readers give by their contracts.
+use lib.Dec.{eqb}
+use mathlib.Core.Bool.{◌&&◌}
+use Prim.Native.Nat.{ℕ}
+use mathlib.Core.Path.{ap₂}
+use borrow.Author.Rules.{rules}
+use Rattle.definition_removal.proofs.is_member.Goals as goal
+
+pub returns : goal.returns
+returns c =
+    ap₂ (λ (a b : ℕ). eqb a 0 && eqb b c.args.i) c.particle_sort-sort.ensures c.particle_index-index.ensures

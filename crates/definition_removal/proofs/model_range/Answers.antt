@@ -1,0 +1,23 @@
+-- `definition_removal::model_range` meets its contract: the two answers of `model_start` are the numbers of particles
+-- that the first i and the first i + 1 definitions have, the second no less (`between`, `particles-step` of Left);
+-- i + 1 is in range as there are at most 64 definitions (`encoded` of Encoded in `store_laws`).
+use Rattle.definition_removal.proofs.Left.{between, particles_step}
+use Rattle.store_laws.proofs.Encoded.{encoded}
+use Rattle.definition_removal.specs.Bodies.{particles_up_to}
+use Rattle.lookup.specs.Bodies.{bodies_of}
+use Rattle.rules.specs.Decode.{particle_count}
+use native.Mathlib.Omega.{arith}
+use Prim.Native.Nat.{ℕ}
+use borrow.Author.Rules.{rules}
+use Rattle.definition_removal.proofs.model_range.Goals as goal
+
+pub overflow_add-i : goal.overflow_add-i
+overflow_add-i c =
+    let x = encoded c.args.store.now c.requires.good in
+    omega (arith, c.requires.there, x.definitions, x.few_definitions)
+
+pub returns : goal.returns
+returns c =
+    let a = c.args in
+    let xs = (bodies_of a.store.now).definitions in
+    between (λ (k : ℕ). particles_up_to k xs) a.i (particle_count a.store.now) (particles_step a.i xs) c.model_start-start.ensures c.model_start-end.ensures

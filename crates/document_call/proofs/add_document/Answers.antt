@@ -1,0 +1,42 @@
+-- `document_call::add_document` meets its contract: the returns are for a bad store (`bad` of CallLaws), a condition
+-- (`turned-away`) and the answer of `edit` (`made-planned` of Calls, `add-document-planned` of CallsPlanned); what
+-- `edit` requires is `add-document-asks` of Laws.
+use mathlib.Core.Path.{ap}
+use mathlib.Core.Bool.{not}
+use borrow.Author.Rules.{rules}
+use lib.ListN.{length}
+use Rattle.rules.specs.Change.{add_document}
+use Rattle.store_laws.specs.Stores.{store_in}
+use Rattle.plans.specs.CallPlans.{add_document_plan}
+use Rattle.plans.proofs.CallsPlanned.{add_document_planned}
+use Rattle.store_writer.proofs.CallLaws.{passed, bad, turned_away}
+use Rattle.call_laws.proofs.Calls.{made_planned}
+use Rattle.document_call.proofs.Laws.{add_document_asks}
+use Rattle.document_call.proofs.add_document.Goals as goal
+
+pub returns-then-not-passes : goal.returns-then-not-passes
+returns-then-not-passes c =
+    bad (add_document c.args.definition c.args.text.now) c.args.store.now (length c.args.out.now) c.args.out.now
+    (ap not c.if-not-passes.true) c.passes.ensures c.refused.ensures
+
+pub add_document_refusal-number-requires : goal.add_document_refusal-number-requires
+add_document_refusal-number-requires c =
+    passed c.args.store.now (ap not c.if-not-passes.false) c.passes.ensures
+
+pub returns-then-number-ne0 : goal.returns-then-number-ne0
+returns-then-number-ne0 c =
+    turned_away (add_document c.args.definition c.args.text.now) c.args.store.now (length c.args.out.now)
+    c.args.out.now (ap not c.if-not-passes.false) c.passes.ensures c.add_document_refusal-number.ensures
+    c.if-number-ne0.true c.refused-then-number-ne0.ensures
+
+pub edit-requires : goal.edit-requires
+edit-requires c =
+    add_document_asks c.args.store.now (ap not c.if-not-passes.false) c.passes.ensures c.args.definition c.args.text.now
+    c.add_document_refusal-number.ensures c.if-number-ne0.false c.adding_document-plan.ensures
+
+pub returns : goal.returns
+returns c =
+    made_planned (add_document c.args.definition c.args.text.now) c.args.store.now (length c.args.out.now)
+    c.args.out.now (add_document_plan c.args.definition) _ c.args.text.now (ap not c.if-not-passes.false) c.passes.ensures
+    c.add_document_refusal-number.ensures c.if-number-ne0.false c.adding_document-plan.ensures
+    (λ g e. add_document_planned (store_in c.args.store.now) g c.args.definition c.args.text.now e) c.edit.ensures

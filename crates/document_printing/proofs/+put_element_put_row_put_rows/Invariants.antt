@@ -1,0 +1,39 @@
+use borrow.Author.Rules.{rules}
+use mathlib.Core.Path.{◌≡◌, ap, ◌∙◌}
+use mathlib.Core.List.{List}
+use Prim.Native.Nat.{suc, ◌+◌, ◌*◌, ◌-◌}
+use native.Mathlib.Omega.{arith}
+use Rattle.rules.specs.Preorder.{build}
+use Rattle.rules.specs.Decode.{read_row, row_sort_of}
+use Rattle.rules.specs.Layout.{row_size}
+use Rattle.layout.specs.Bodies.{record_at}
+use Rattle.lookup.proofs.Laws.{from_none}
+use Rattle.printing_parts.specs.Parts.{names_of, attribute_names_of}
+use Rattle.document_printing.specs.Documents.{rows_text, stays}
+use Rattle.document_printing.proofs.RowTexts.{rows_tree, rows_bare}
+use Rattle.printing_parts.proofs.PartLaws.{row_step_lem}
+use Rattle.printing_parts.proofs.WalkLaws.{Walk, walk_start, walk_deeper, walk_here, walk_stops, walk_ends, walk_as}
+use Rattle.document_printing.proofs.RowLaws.{end_short, row_short, element_enclosed, attribute_stepped, row_element_stepped, text_stepped}
+use Prim.Native.Nat.{ℕ, ◌<◌}
+use Rattle.codec.proofs.Writers.{laid_long}
+use Rattle.lookup.specs.Bodies.{rows_from}
+use Rattle.document_printing.proofs.+put_element_put_row_put_rows.Given as goal
+
+abbrev pub decreases-put_element : goal.decreases-put_element
+decreases-put_element l = 3 * (l.count - l.i)
+
+abbrev pub decreases-put_row : goal.decreases-put_row
+decreases-put_row l = 3 * (l.count - l.i) + 1
+
+abbrev pub decreases-put_rows : goal.decreases-put_rows
+decreases-put_rows l = 3 * (l.count - l.from) + 2
+
+-- The loop's invariant: the text of the rows of this depth from i on, written from `at` on, completes that of those
+-- from `from` on; `opened` says whether the start tag is still open.
+abbrev pub invariant-put_rows-loop-i : goal.invariant-put_rows-loop-i
+invariant-put_rows-loop-i l =
+    Walk (rows_from l.w l.rows l.count) (rows_text (names_of l.store) (attribute_names_of l.store))
+    (rows_text (names_of l.store) (attribute_names_of l.store) l.behind (build (rows_from l.w l.rows l.count l.from) l.depth)) l.count l.from l.depth l.start l.initial.out l.i l.at l.opened l.out
+
+abbrev pub decreases-put_rows-loop-i : goal.decreases-put_rows-loop-i
+decreases-put_rows-loop-i l = l.count - l.i

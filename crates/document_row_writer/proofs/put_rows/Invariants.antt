@@ -1,0 +1,20 @@
+use Prim.Native.Nat.{ℕ, ◌-◌}
+use mathlib.Core.Path.{◌≡◌, refl, ap, ◌∙◌}
+use native.Mathlib.Omega.{arith}
+use borrow.Author.Tests.{not-true, not-false}
+use lib.ListN.{length, length-drop, length-replicate}
+use Rattle.document_tokens.specs.Tokens.{declared_in}
+use Rattle.document_row_writer.specs.Putting.{Kept}
+use Rattle.document_row_writer.proofs.PutLaws.{goes_on, Putting, part_none, putting_room, putting_on, putting_refused, putting_ended}
+use borrow.Author.Rules.{rules}
+use Rattle.document_row_writer.proofs.put_rows.Given as goal
+
+-- the first `size` bytes are read and their rows written; the arrays keep their lengths
+abbrev pub invariant-loop-size : goal.invariant-loop-size
+invariant-loop-size l =
+    Putting l.w (declared_in l.form) l.text l.initial.here.count l.initial.opened l.initial.here.depth l.initial.here.tag l.limit l.initial.out l.at l.size l.here.count l.opened l.here.depth l.here.tag l.out l.next
+    × Kept l.initial.out l.opened l.out
+    × (length l.value ≡ 256)
+
+abbrev pub decreases-loop-size : goal.decreases-loop-size
+decreases-loop-size l = length l.text - l.size

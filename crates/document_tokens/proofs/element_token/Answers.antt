@@ -1,0 +1,27 @@
+-- `document_tokens::element_token` meets its contract: what was read is the token (`element-told` of TellLaws), and its
+-- size is not past the end of the text (`leading-short` of TokenLaws).
+use mathlib.Core.Path.{ap}
+use native.Mathlib.Omega.{arith}
+use lib.ListN.{length, length-drop}
+use Rattle.rules.specs.WellFormed.{in_name}
+use Rattle.document_tokens.proofs.TokenLaws.{leading_short}
+use Rattle.document_tokens.proofs.TellLaws.{element_told}
+use borrow.Author.Rules.{rules}
+use Rattle.document_tokens.proofs.element_token.Goals as goal
+
+pub definition_place-i-requires : goal.definition_place-i-requires
+definition_place-i-requires c =
+    let form = c.args.form.now in
+    let room = c.requires in
+    let count = c.definition_count-count.ensures.value in
+    (omega (arith, room.definitions_few, count), omega (arith, room.definitions_there, count, ap length c.after-definitions.ensures, length-drop 40 form))
+
+pub overflow_add-result : goal.overflow_add-result
+overflow_add-result c =
+    omega (arith, c.name_length-n.ensures, leading_short in_name c.after-rest.result.now, ap length c.after-rest.ensures, length-drop 1 c.args.text.now)
+
+pub returns : goal.returns
+returns c =
+    element_told c.args.form.now c.args.text.now c.after-rest.ensures c.name_length-n.ensures
+    c.first-name.ensures c.after-definitions.ensures c.definition_count-count.ensures.value
+    c.definition_place-i.ensures c.byte.ensures

@@ -1,0 +1,31 @@
+-- `escaping::put_escaped` meets its contract: a plain value is its own escape by the contract of `is_plain`, so that it
+-- is written as it is (`laid_as` of Writers). Else each byte that is written, escaped, keeps the invariant
+-- (`escaping-on` of Laws), and at the end no byte is left to write (`escaping-done`).
+use mathlib.Core.Path.{refl}
+use Prim.Native.Nat.{◌-◌}
+use native.Mathlib.Omega.{arith}
+use borrow.Author.Rules.{rules}
+use lib.ListN.{length}
+use Rattle.codec.proofs.Writers.{laid_as, laid_long}
+use Rattle.escaping.proofs.Laws.{Escaping, escaping_on, escaping_done}
+use Rattle.escaping.proofs.put_escaped.Goals as goal
+
+pub put-requires : goal.put-requires
+put-requires c = omega arith
+
+pub returns-then-is_plain : goal.returns-then-is_plain
+returns-then-is_plain c =
+    laid_as (c.is_plain.ensures c.if-is_plain.true) c.put.ensures
+
+pub loop-i-init : goal.loop-i-init
+loop-i-init c = record { goes = λ r o l. l; small = omega arith; inside = omega arith; long = refl }
+
+pub put_escaped_byte-at-requires : goal.put_escaped_byte-at-requires
+put_escaped_byte-at-requires c = omega arith
+
+pub loop-i-preserved : goal.loop-i-preserved
+loop-i-preserved c =
+    escaping_on c.args.value.now _ c.loop-i.invariant (omega arith) c.byte.ensures c.put_escaped_byte-at.ensures
+
+pub returns : goal.returns
+returns c = escaping_done _ c.loop-i.invariant (omega arith)

@@ -1,0 +1,15 @@
+use mathlib.Core.Path.{refl}
+use Prim.Native.Nat.{◌-◌}
+use native.Mathlib.Omega.{arith}
+use borrow.Author.Rules.{rules}
+use lib.ListN.{length}
+use Rattle.codec.proofs.Writers.{laid_as, laid_long}
+use Rattle.escaping.proofs.Laws.{Escaping, escaping_on, escaping_done}
+use Rattle.escaping.proofs.put_escaped.Given as goal
+
+-- once the rest of the value is written, escaped, all of it is
+abbrev pub invariant-loop-i : goal.invariant-loop-i
+invariant-loop-i l = Escaping l.value l.initial.out l.start l.out l.at l.i
+
+abbrev pub decreases-loop-i : goal.decreases-loop-i
+decreases-loop-i l = length l.value - l.i

@@ -1,0 +1,87 @@
+-- `filling::accepts_nothing` and `filling::member_accepts_nothing` meet their contracts: a member is judged by its
+-- quantifier (`absent-skips` of FillingLaws), as an element (`absent-element`), or as a LIST or CHOICE by its members
+-- (`absent-list`, `absent-choice`). In `accepts_nothing` the invariant holds at first (`unsettled-starts`); a particle
+-- that the group goes past is passed (`unsettled-past`), any other is a member (`unsettled-here`), which settles the
+-- answer (`unsettled-by`) or leaves it to those after it (`unsettled-on`); a particle outside the group or the end of s
+-- gives the answer of no members (`unsettled-over`, `unsettled-ends`). In a group there are fewer particles, so the
+-- cycle ends.
+use native.Mathlib.Omega.{arith}
+use borrow.Author.Rules.{rules}
+use lib.ListN.{length, drop, length-take, length-drop}
+use Rattle.filling.proofs.FillingLaws.{Unsettled, unsettled_starts, unsettled_ends, unsettled_over, unsettled_past, unsettled_here, unsettled_by}
+use Rattle.filling.proofs.FillingLaws.{unsettled_on, absent_skips, absent_element, absent_list, absent_choice}
+use Prim.Native.Nat.{ℕ, ◌<◌, ◌+◌, ◌-◌, ◌*◌}
+use Rattle.rules.specs.Layout.{particle_size}
+use Rattle.filling.proofs.+accepts_nothing_member_accepts_nothing.Goals as goal
+
+pub accepts_nothing-loop-t-init : goal.accepts_nothing-loop-t-init
+accepts_nothing-loop-t-init t c = let a = c.args in unsettled_starts a.kind a.d a.s.now
+
+pub accepts_nothing-returns-then-own-d : goal.accepts_nothing-returns-then-own-d
+accepts_nothing-returns-then-own-d t c =
+    unsettled_over c.loop-t.invariant (omega arith) _ c.particle_depth-own.ensures (omega arith) c.nothing_of_none.ensures
+
+pub accepts_nothing-loop-t-smaller-then-is_passed : goal.accepts_nothing-loop-t-smaller-then-is_passed
+accepts_nothing-loop-t-smaller-then-is_passed t c =
+    let t = c.loop-t.t.now in
+    omega (arith, length-take (length t - particle_size) (drop particle_size t), length-drop particle_size t)
+
+pub accepts_nothing-loop-t-preserved-then-is_passed : goal.accepts_nothing-loop-t-preserved-then-is_passed
+accepts_nothing-loop-t-preserved-then-is_passed t c =
+    unsettled_past c.loop-t.invariant (omega arith) _ c.particle_depth-own.ensures (omega arith) _ c.is_passed.ensures c.if-is_passed.true
+
+pub accepts_nothing-member_accepts_nothing-member-requires : goal.accepts_nothing-member_accepts_nothing-member-requires
+accepts_nothing-member_accepts_nothing-member-requires t c =
+    let here = unsettled_here c.loop-t.invariant (omega arith) _ c.particle_depth-own.ensures (omega arith) _ c.is_passed.ensures c.if-is_passed.false in
+    (omega (arith, c.loop-t.invariant.short), (omega (arith, here), omega arith))
+
+pub accepts_nothing-returns-then-is_settled : goal.accepts_nothing-returns-then-is_settled
+accepts_nothing-returns-then-is_settled t c =
+    unsettled_by c.loop-t.invariant (omega arith) _ c.particle_depth-own.ensures (omega arith) _ c.is_passed.ensures c.if-is_passed.false
+    _ c.member_accepts_nothing-member.ensures _ c.is_settled.ensures c.if-is_settled.true
+
+pub accepts_nothing-loop-t-smaller : goal.accepts_nothing-loop-t-smaller
+accepts_nothing-loop-t-smaller t c =
+    let t = c.loop-t.t.now in
+    omega (arith, length-take (length t - particle_size) (drop particle_size t), length-drop particle_size t)
+
+pub accepts_nothing-loop-t-preserved : goal.accepts_nothing-loop-t-preserved
+accepts_nothing-loop-t-preserved t c =
+    unsettled_on c.loop-t.invariant (omega arith) _ c.particle_depth-own.ensures (omega arith) _ c.is_passed.ensures c.if-is_passed.false
+    _ c.member_accepts_nothing-member.ensures _ c.is_settled.ensures c.if-is_settled.false
+
+pub accepts_nothing-returns : goal.accepts_nothing-returns
+accepts_nothing-returns t c =
+    unsettled_ends c.loop-t.invariant (omega arith) c.nothing_of_none-2.ensures
+
+pub member_accepts_nothing-returns-then-is_optional : goal.member_accepts_nothing-returns-then-is_optional
+member_accepts_nothing-returns-then-is_optional t c =
+    let a = c.args in
+    absent_skips a.d a.t.now _ c.is_optional.ensures c.if-is_optional.true
+
+pub member_accepts_nothing-accepts_nothing-requires : goal.member_accepts_nothing-accepts_nothing-requires
+member_accepts_nothing-accepts_nothing-requires t c =
+    let s = c.args.t.now in
+    (omega (arith, length-take (length s - particle_size) (drop particle_size s), length-drop particle_size s), omega arith)
+
+pub member_accepts_nothing-accepts_nothing-requires-in_default : goal.member_accepts_nothing-accepts_nothing-requires-in_default
+member_accepts_nothing-accepts_nothing-requires-in_default t c =
+    let s = c.args.t.now in
+    (omega (arith, length-take (length s - particle_size) (drop particle_size s), length-drop particle_size s), omega arith)
+
+pub member_accepts_nothing-returns-in-0 : goal.member_accepts_nothing-returns-in-0
+member_accepts_nothing-returns-in-0 t c =
+    let a = c.args in
+    absent_element a.d a.t.now _ c.is_optional.ensures c.if-is_optional.false _ c.particle_sort.ensures c.in-0.is
+
+pub member_accepts_nothing-returns-in-1 : goal.member_accepts_nothing-returns-in-1
+member_accepts_nothing-returns-in-1 t c =
+    let a = c.args in
+    absent_list a.d a.t.now _ c.is_optional.ensures c.if-is_optional.false
+    _ c.particle_sort.ensures _ c.in-1.is c.accepts_nothing.ensures
+
+pub member_accepts_nothing-returns-in_default : goal.member_accepts_nothing-returns-in_default
+member_accepts_nothing-returns-in_default t c =
+    let a = c.args in
+    absent_choice a.d a.t.now _ c.is_optional.ensures c.if-is_optional.false _ c.particle_sort.ensures _
+    (omega arith) (omega arith) c.accepts_nothing-in_default.ensures

@@ -1,0 +1,7 @@
+-- `filling::is_left_out` meets its contract: in each case of the match the return is the clause of `leftOut` for the
+-- kind, for a sequence by the contract of `is_optional`.
+use borrow.Author.Rules.{rules}
+use Rattle.filling.proofs.is_left_out.Goals as goal
+
+pub returns-in-Sequence : goal.returns-in-Sequence
+returns-in-Sequence c = rw c.in-Sequence.is c.is_optional.ensures

@@ -1,0 +1,56 @@
+-- `flatten_call::flatten_group` meets its contract: a store that does not pass is refused with 1 (`bad` of
+-- CallLaws), a condition that holds gives its number (`turned-away`); else the edit fits its place (`flatten-fits`
+-- of Laws; `asks` of Fits) and keeps all rows (`kept-answers` of Keeping, by `flatten-form`, `flatten-plan`).
+use mathlib.Core.Bool.{not}
+use mathlib.Core.Path.{sym, ◌∙◌, ap}
+use lib.ListN.{length}
+use Rattle.rules.specs.Lines.{lines}
+use Rattle.rules.specs.Change.{flatten_group}
+use Rattle.store_laws.specs.Stores.{store_in}
+use Rattle.store_writer.proofs.CallLaws.{passed, bad, turned_away}
+use Rattle.model_edit.proofs.Fits.{asks}
+use Rattle.model_edit.proofs.Keeping.{kept_answers, keeping_sized}
+use Rattle.flatten_call.proofs.Laws.{flatten_fits, flatten_form, flatten_plan}
+use borrow.Author.Rules.{rules}
+use Rattle.rules.proofs.WellFormedLaws.{none_value}
+use Rattle.layout.specs.Bodies.{width_of}
+use Rattle.flatten_call.proofs.flatten_group.Goals as goal
+
+pub returns-then-not-passes : goal.returns-then-not-passes
+returns-then-not-passes c =
+    let a = c.args in
+    bad (flatten_group a.owner a.place.now) a.store.now (length a.out.now) a.out.now
+    (ap not c.if-not-passes.true) c.passes.ensures c.refused.ensures
+
+pub flatten_group_refusal-group-requires : goal.flatten_group_refusal-group-requires
+flatten_group_refusal-group-requires c =
+    passed c.args.store.now (ap not c.if-not-passes.false) c.passes.ensures
+
+pub returns-then-number-ne0 : goal.returns-then-number-ne0
+returns-then-number-ne0 c =
+    let a = c.args in
+    turned_away (flatten_group a.owner a.place.now) a.store.now (length a.out.now) a.out.now
+    (ap not c.if-not-passes.false) c.passes.ensures c.flatten_group_refusal-group.ensures.0 c.if-number-ne0.true c.refused-then-number-ne0.ensures
+
+pub edit_model-requires : goal.edit_model-requires
+edit_model-requires c =
+    let a = c.args in
+    let none = sym c.flatten_group_refusal-group.ensures.0 ∙ c.if-number-ne0.false in
+    let fits = flatten_fits a.store.now (passed a.store.now (ap not c.if-not-passes.false) c.passes.ensures) a.owner a.place.now none in
+    let place = c.flatten_group_refusal-group.ensures.1.found c.if-number-ne0.false in
+    let edit = c.flatten_edit-edit.result in
+    let same = c.flatten_edit-edit.ensures in
+    (asks fits edit same place, none_value (width_of a.store.now), keeping_sized c.setting_plan-plan.ensures)
+
+pub returns : goal.returns
+returns c =
+    let a = c.args in
+    let none = sym c.flatten_group_refusal-group.ensures.0 ∙ c.if-number-ne0.false in
+    let fits = flatten_fits a.store.now (passed a.store.now (ap not c.if-not-passes.false) c.passes.ensures) a.owner a.place.now none in
+    let place = c.flatten_group_refusal-group.ensures.1.found c.if-number-ne0.false in
+    let edit = c.flatten_edit-edit.result in
+    let same = c.flatten_edit-edit.ensures in
+    kept_answers fits edit same place (flatten_group a.owner a.place.now) (length a.out.now) _ c.setting_plan-plan.ensures
+    c.flatten_group_refusal-group.ensures.0 c.if-number-ne0.false (flatten_form a.owner a.place.now (store_in a.store.now).form)
+    (flatten_plan a.owner a.place.now (store_in a.store.now).version (store_in a.store.now).form (lines 0 (store_in a.store.now).docs))
+    c.edit_model.ensures

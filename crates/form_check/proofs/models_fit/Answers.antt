@@ -1,0 +1,80 @@
+-- `form_check::models_fit` meets its contract. The loop's invariant: the models from definition i on, in the particles
+-- from `at` on, fit if and only if all do. The measure is what is left of the definitions.
+use mathlib.Core.Bool.{not}
+use mathlib.Core.Path.{◌≡◌, refl, sym, ◌∙◌, ap}
+use Prim.Native.Nat.{◌-◌, ◌≤◌}
+use native.Mathlib.Omega.{arith}
+use borrow.Author.Rules.{rules}
+use lib.ListN.{drop}
+use Rattle.form_check.specs.FormTests.{models_fit}
+use Rattle.form_check.specs.Bodies.{definitions}
+use Rattle.model_check.specs.Particles.{particles_read}
+use Rattle.form_check.proofs.Reading.{definitions_from_lem, definitions_end}
+use Rattle.model_check.proofs.Reading.{particles_length}
+use Rattle.form_check.proofs.ModelsLaws.{part_fits, models_short, models_off, models_on, models_end}
+use Rattle.form_check.proofs.models_fit.Goals as goal
+
+pub loop-i-init : goal.loop-i-init
+loop-i-init c = (omega arith, refl)
+
+pub definition_particles_at-size-requires : goal.definition_particles_at-size-requires
+definition_particles_at-size-requires c = omega arith
+
+pub overflow_sub-p : goal.overflow_sub-p
+overflow_sub-p c = omega arith
+
+pub returns-then-p-at : goal.returns-then-p-at
+returns-then-p-at c =
+    let a = c.args in
+    let l = c.loop-i in
+    let ps = particles_read a.p a.parts.now in
+    sym (models_short a.n a.p l.at ps (particles_length a.p a.parts.now) (definitions_from_lem l.i a.n a.defs.now (omega arith))
+    c.definition_particles_at-size.ensures c.if-p-at.true) ∙ l.invariant.1
+
+pub particles_part-requires : goal.particles_part-requires
+particles_part-requires c = (omega arith, omega arith)
+
+pub model_fits-requires : goal.model_fits-requires
+model_fits-requires c = omega arith
+
+pub returns-then-not-model_fits : goal.returns-then-not-model_fits
+returns-then-not-model_fits c =
+    let a = c.args in
+    let l = c.loop-i in
+    let k = c.definition_particles_at-size.result in
+    let ps = particles_read a.p a.parts.now in
+    let fits = part_fits a.n l.at k a.p a.parts.now c.particles_part.ensures c.model_fits.ensures (omega arith)
+    c.requires.1.whole in
+    sym (models_off a.n a.p l.at ps (particles_length a.p a.parts.now) (definitions_from_lem l.i a.n a.defs.now (omega arith))
+    c.definition_particles_at-size.ensures c.if-p-at.false fits (ap not c.if-not-model_fits.true)) ∙ l.invariant.1
+
+pub overflow_add-at : goal.overflow_add-at
+overflow_add-at c = omega arith
+
+pub overflow_add-i : goal.overflow_add-i
+overflow_add-i c = omega arith
+
+pub loop-i-smaller : goal.loop-i-smaller
+loop-i-smaller c = omega arith
+
+pub loop-i-preserved : goal.loop-i-preserved
+loop-i-preserved c =
+    let a = c.args in
+    let l = c.loop-i in
+    let k = c.definition_particles_at-size.result in
+    let ps = particles_read a.p a.parts.now in
+    let fits = part_fits a.n l.at k a.p a.parts.now c.particles_part.ensures c.model_fits.ensures (omega arith)
+    c.requires.1.whole in (
+      omega arith,
+      models_on a.n a.p l.at ps (particles_length a.p a.parts.now) (definitions_from_lem l.i a.n a.defs.now (omega arith))
+          c.definition_particles_at-size.ensures c.if-p-at.false fits (ap not c.if-not-model_fits.false) ∙ l.invariant.1,
+    )
+
+pub returns : goal.returns
+returns c =
+    let a = c.args in
+    let l = c.loop-i in
+    sym
+    (models_end a.n a.p l.at (particles_read a.p a.parts.now) (particles_length a.p a.parts.now) (omega arith)
+    (definitions_end l.i a.n a.defs.now (omega arith)))
+    ∙ l.invariant.1

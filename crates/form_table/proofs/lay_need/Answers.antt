@@ -1,0 +1,41 @@
+-- `form_table::lay_need` meets its contract by a law of TableLaws for each return: no row of the attribute must be
+-- there (`need-other`), its owner is no definition of the form (`need-past`), or it is put into its owner's set
+-- (`need-put`).
+use mathlib.Core.Path.{ap}
+use mathlib.Core.Bool.{not}
+use native.Mathlib.Omega.{arith}
+use Rattle.form_index.proofs.ReadingLaws.{needs_read}
+use Rattle.form_table.proofs.TableLaws.{need_other, need_past, need_put}
+use borrow.Author.Rules.{rules}
+use Rattle.form_table.proofs.lay_need.Goals as goal
+
+pub returns-then-not-must_be_present : goal.returns-then-not-must_be_present
+returns-then-not-must_be_present c =
+    let a = c.args in
+    let found = c.attribute_at-record.ensures in
+    let owner = c.attribute_owner-i in
+    let sort = c.attribute_sort in
+    let present = c.must_be_present in
+    need_other a.version a.w a.n a.attrs.now a.j a.table.now owner.result present.result
+    (λ i. needs_read a.w _ a.attrs.now a.j found a.version i _ _ _ owner.ensures sort.ensures present.ensures) (ap not c.if-not-must_be_present.true)
+
+pub returns-then-i-n : goal.returns-then-i-n
+returns-then-i-n c =
+    let a = c.args in
+    let found = c.attribute_at-record.ensures in
+    let owner = c.attribute_owner-i in
+    let sort = c.attribute_sort in
+    let present = c.must_be_present in
+    need_past a.version a.w a.n a.attrs.now a.j a.table.now owner.result present.result
+    (λ i. needs_read a.w _ a.attrs.now a.j found a.version i _ _ _ owner.ensures sort.ensures present.ensures) (omega arith)
+
+pub returns : goal.returns
+returns c =
+    let a = c.args in
+    let found = c.attribute_at-record.ensures in
+    let owner = c.attribute_owner-i in
+    let sort = c.attribute_sort in
+    let present = c.must_be_present in
+    need_put a.version a.w a.n a.attrs.now a.j a.table.now owner.result present.result
+    (λ i. needs_read a.w _ a.attrs.now a.j found a.version i _ _ _ owner.ensures sort.ensures present.ensures)
+    (ap not c.if-not-must_be_present.false) (omega arith) c.requires.1 c.requires.3 _ c.with.ensures

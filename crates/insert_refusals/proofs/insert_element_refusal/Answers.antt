@@ -1,0 +1,57 @@
+-- `insert_refusals::insert_element_refusal` meets its contract: each return gives the first condition of change 3 that
+-- holds: 3 (`insert-3` of RefusalLaws), 4 (`insert-4`), 6 for the owner or the definition (`insert-6`, `insert-6-too`),
+-- else what `place_refusal` gives from condition 8 on, with the place (`insert-on`).
+use mathlib.Core.Path.{ap}
+use mathlib.Core.Bool.{not}
+use native.Mathlib.Omega.{arith}
+use Rattle.model_places.proofs.PickLaws.{refused_there}
+use Rattle.model_reach.proofs.FormFacts.{reads}
+use Rattle.insert_refusals.proofs.RefusalLaws.{insert_3, insert_4, insert_6, insert_6_too, insert_on}
+use borrow.Author.Rules.{rules}
+use Rattle.insert_refusals.proofs.insert_element_refusal.Goals as goal
+
+pub returns-then-not-is_value : goal.returns-then-not-is_value
+returns-then-not-is_value c =
+    let a = c.args in
+    refused_there
+    (insert_3 _ (reads _ c.requires) a.owner a.place.now a.definition a.quantifier a.text.now
+    c.width_in-w.ensures c.is_value.ensures (ap not c.if-not-is_value.true))
+    c.refused.ensures (omega arith)
+
+pub returns-then-quantifier-gt3 : goal.returns-then-quantifier-gt3
+returns-then-quantifier-gt3 c =
+    let a = c.args in
+    refused_there
+    (insert_4 _ (reads _ c.requires) a.owner a.place.now a.definition a.quantifier a.text.now
+    c.width_in-w.ensures c.is_value.ensures (ap not c.if-not-is_value.false) (omega arith))
+    c.refused-then-quantifier-gt3.ensures (omega arith)
+
+pub returns-then-o-n : goal.returns-then-o-n
+returns-then-o-n c =
+    let a = c.args in
+    refused_there
+    (insert_6 _ (reads _ c.requires) a.owner a.place.now a.definition a.quantifier a.text.now
+    c.width_in-w.ensures c.is_value.ensures (ap not c.if-not-is_value.false) (omega arith) c.definition_count-n.ensures (omega arith))
+    c.refused-then-o-n.ensures (omega arith)
+
+pub returns-then-i-n : goal.returns-then-i-n
+returns-then-i-n c =
+    let a = c.args in
+    refused_there
+    (insert_6_too _ (reads _ c.requires) a.owner a.place.now a.definition a.quantifier a.text.now
+    c.width_in-w.ensures c.is_value.ensures (ap not c.if-not-is_value.false) (omega arith) c.definition_count-n.ensures (omega arith) (omega arith))
+    c.refused-then-i-n.ensures (omega arith)
+
+pub place_refusal-requires : goal.place_refusal-requires
+place_refusal-requires c =
+    let count = c.definition_count-n.ensures.value in
+    (c.requires, omega (arith, count), omega (arith, count))
+
+pub returns : goal.returns
+returns c =
+    let a = c.args in
+    let place = c.place_refusal.ensures in
+    let given = insert_on _ (reads _ c.requires) a.owner a.place.now a.definition a.quantifier a.text.now
+    c.width_in-w.ensures c.is_value.ensures (ap not c.if-not-is_value.false) (omega arith) c.definition_count-n.ensures (omega arith)
+    (omega arith) c.needs_filling-needed.ensures place.0 in
+    (given.is, place.1)

@@ -1,0 +1,12 @@
+-- `layout::particle_depth_at` meets its contract: byte `4 * i + 3` of the body is byte 3 of record i (`field-by` of
+-- LayoutLaws).
+use native.Mathlib.Omega.{arith}
+use Rattle.rules.specs.Layout.{particle_size}
+use Rattle.layout.proofs.LayoutLaws.{field_by}
+use borrow.Author.Rules.{rules}
+use Rattle.layout.proofs.particle_depth_at.Goals as goal
+
+pub returns : goal.returns
+returns c =
+    let a = c.args in
+    field_by particle_size a.i 3 a.parts.now (omega arith) c.byte.ensures c.wide.ensures

@@ -1,0 +1,15 @@
+-- `look_up_calls::look_up` meets its contract: the case split is on what `passes` answers: a bad store gives the empty
+-- part and 1 (`hands-bad` of Laws), a good one what `value_of` gives (`hands-good`).
+use mathlib.Core.Path.{ap}
+use mathlib.Core.Bool.{not}
+use borrow.Author.Rules.{rules}
+use Rattle.look_up_calls.proofs.Laws.{hands_bad, hands_good}
+use Rattle.look_up_calls.proofs.look_up.Goals as goal
+
+pub returns-then-not-passes : goal.returns-then-not-passes
+returns-then-not-passes c =
+    hands_bad _ _ (ap not c.if-not-passes.true) c.passes.ensures
+
+pub returns : goal.returns
+returns c =
+    hands_good _ _ (ap not c.if-not-passes.false) c.passes.ensures c.value_of.ensures

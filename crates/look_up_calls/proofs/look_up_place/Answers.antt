@@ -1,0 +1,14 @@
+-- `look_up_calls::look_up_place` meets its contract: the case split is on what `passes` answers: a bad store gives 1,
+-- with place and length 0 (`looks-bad` of Laws), a good one what `find_value` gives (`looks-good`).
+use mathlib.Core.Path.{ap}
+use mathlib.Core.Bool.{not}
+use borrow.Author.Rules.{rules}
+use Rattle.look_up_calls.proofs.Laws.{looks_bad, looks_good}
+use Rattle.look_up_calls.proofs.look_up_place.Goals as goal
+
+pub returns-then-not-passes : goal.returns-then-not-passes
+returns-then-not-passes c = looks_bad _ _ (ap not c.if-not-passes.true) c.passes.ensures
+
+pub returns : goal.returns
+returns c =
+    looks_good _ _ (ap not c.if-not-passes.false) c.passes.ensures c.find_value.ensures

@@ -1,0 +1,8 @@
+-- `lookup::from_rows` meets its contract: the window from the first row on, as long as the string, is all that stands
+-- from there on (`rows-from` of Laws).
+use Rattle.lookup.proofs.Laws.{rows_from_lem}
+use borrow.Author.Rules.{rules}
+use Rattle.lookup.proofs.from_rows.Goals as goal
+
+pub returns : goal.returns
+returns c = rows_from_lem _ _ _ c.row_start-start.ensures c.window.ensures

@@ -1,0 +1,14 @@
+-- `member_plans::inserting_plan` meets its contract: the plan is that of `insert_element_plan`, with `marksAt` and
+-- `skips` put in for what `marks` and `needs_filling` gave.
+use mathlib.Core.Path.{ap₂, ◌∙◌}
+use mathlib.Core.Bool.{Bool, ◌&&◌}
+use Rattle.rules.specs.Bytes.{Bytes}
+use Rattle.plans.specs.ModelCalls.{insert_element_plan}
+use borrow.Author.Rules.{rules}
+use Rattle.member_plans.proofs.inserting_plan.Goals as goal
+
+pub returns : goal.returns
+returns c =
+    let a = c.args in
+    c.insert_element_plan.ensures ∙ ap₂ (λ (m : Bytes) (b : Bool). insert_element_plan a.owner m a.definition (b && a.spine)) c.marks.ensures
+    c.needs_filling.ensures

@@ -1,0 +1,65 @@
+-- `model_edit::edit_model` meets its contract: a form past its ceilings is answered with 16 (`form-ceiling` of
+-- FormAnswers); else the buffer has the bytes of the edited form (`form-short`, `stored` of FormWriting) and the counts
+-- are its own (`as_many`, `form_of`), as `edit_form` requires, and its answer is that for this form (`form-answers`).
+use Prim.Native.Nat.{ℕ}
+use mathlib.Core.Path.{sym, ◌∙◌}
+use lib.ListN.{length, length-replicate}
+use borrow.Author.Tests.{not-true, not-false}
+use Rattle.layout.specs.Bodies.{most_form}
+use Rattle.lookup.specs.Bodies.{bodies_of}
+use Rattle.store_writer.proofs.LimitLaws.{answers_as}
+use Rattle.store_laws.proofs.FormLaws.{forms_of}
+use Rattle.store_writer.proofs.FormAnswers.{form_answers, form_ceiling}
+use Rattle.model_form.proofs.FormWriting.{owner_low, own_low, as_many, form_short, form_of, stored}
+use borrow.Author.Rules.{rules}
+use Rattle.model_edit.proofs.edit_model.Goals as goal
+
+pub all_after-p-requires : goal.all_after-p-requires
+all_after-p-requires c =
+    (owner_low c.requires.0, own_low c.requires.0)
+
+pub keeps_within-requires : goal.keeps_within-requires
+keeps_within-requires c =
+    (c.requires.0, as_many c.requires.0 c.all_after-p.ensures)
+
+pub returns-then-not-keeps_within : goal.returns-then-not-keeps_within
+returns-then-not-keeps_within c =
+    answers_as c.refused.ensures.0 c.refused.ensures.1
+    (form_ceiling _ (sym c.keeps_within.ensures ∙ c.if-not-keeps_within.true) c.args.plan c.args.text.now
+    (bodies_of c.args.store.now) (length c.args.out.now))
+
+pub put_edited-end-requires : goal.put_edited-end-requires
+put_edited-end-requires c =
+    (c.requires.0, sym c.keeps_within.ensures ∙ c.if-not-keeps_within.false)
+
+pub slice_bounds-form-end : goal.slice_bounds-form-end
+slice_bounds-form-end c =
+    (stored c.put_edited-end.ensures (length-replicate {A = ℕ} most_form 0)
+    (form_short c.requires.0 (sym c.keeps_within.ensures ∙ c.if-not-keeps_within.false))).inside
+
+pub slice_bounds-edit_form-end : goal.slice_bounds-edit_form-end
+slice_bounds-edit_form-end c =
+    (stored c.put_edited-end.ensures (length-replicate {A = ℕ} most_form 0)
+    (form_short c.requires.0 (sym c.keeps_within.ensures ∙ c.if-not-keeps_within.false))).count
+
+pub edit_form-requires : goal.edit_form-requires
+edit_form-requires c =
+    (
+      c.requires.0.good,
+      c.requires.1,
+      c.requires.2,
+      forms_of
+          (form_of c.requires.0 (sym c.keeps_within.ensures ∙ c.if-not-keeps_within.false) c.definition_count-d.ensures
+          (as_many c.requires.0 c.all_after-p.ensures) c.attribute_count-a.ensures
+          (stored c.put_edited-end.ensures (length-replicate {A = ℕ} most_form 0)
+          (form_short c.requires.0 (sym c.keeps_within.ensures ∙ c.if-not-keeps_within.false))).is),
+    )
+
+pub returns : goal.returns
+returns c =
+    form_answers
+    (form_of c.requires.0 (sym c.keeps_within.ensures ∙ c.if-not-keeps_within.false) c.definition_count-d.ensures
+    (as_many c.requires.0 c.all_after-p.ensures) c.attribute_count-a.ensures
+    (stored c.put_edited-end.ensures (length-replicate {A = ℕ} most_form 0)
+    (form_short c.requires.0 (sym c.keeps_within.ensures ∙ c.if-not-keeps_within.false))).is)
+    c.args.plan c.args.text.now (bodies_of c.args.store.now) (length c.args.out.now) c.edit_form.ensures

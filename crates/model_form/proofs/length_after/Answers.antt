@@ -1,0 +1,34 @@
+-- `model_form::length_after` meets its contract: each arm is the clause of `lengthAfter` for its edit (`length-case` of
+-- FormWriting); for `Remove` and `Flatten` that is n - 1, which is 0 where n is 0.
+use native.Mathlib.Omega.{arith}
+use Rattle.model_form.proofs.FormWriting.{length_case}
+use borrow.Author.Rules.{rules}
+use Rattle.model_form.proofs.length_after.Goals as goal
+
+pub returns-in-Insert : goal.returns-in-Insert
+returns-in-Insert c =
+    omega (arith, length_case c.args.n c.in-Insert.is)
+
+pub returns-then-n-eq0 : goal.returns-then-n-eq0
+returns-then-n-eq0 c =
+    omega (arith, length_case c.args.n c.in-Remove.is)
+
+pub returns-else-n-eq0 : goal.returns-else-n-eq0
+returns-else-n-eq0 c =
+    omega (arith, length_case c.args.n c.in-Remove.is)
+
+pub returns-in-Quantify : goal.returns-in-Quantify
+returns-in-Quantify c =
+    omega (arith, length_case c.args.n c.in-Quantify.is)
+
+pub returns-in-Convert : goal.returns-in-Convert
+returns-in-Convert c =
+    omega (arith, length_case c.args.n c.in-Convert.is)
+
+pub returns-then-n-eq0-2 : goal.returns-then-n-eq0-2
+returns-then-n-eq0-2 c =
+    omega (arith, length_case c.args.n c.in-Flatten.is)
+
+pub returns-else-n-eq0-2 : goal.returns-else-n-eq0-2
+returns-else-n-eq0-2 c =
+    omega (arith, length_case c.args.n c.in-Flatten.is)

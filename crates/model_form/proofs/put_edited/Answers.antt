@@ -1,0 +1,43 @@
+-- `model_form::put_edited` meets its contract: the definitions with the owner's new count, the particles and the
+-- attributes, laid one after the other, are the form after the edit (`form-laid` of FormWriting); numbers and places
+-- are in range by `owner-low`, `own-short`, `table-short`, `counted-short`, `particles-short` and `attrs-short`.
+use native.Mathlib.Omega.{arith}
+use Rattle.model_form.proofs.FormWriting.{owner_low, own_short, table_short, particles_short, counted_short, attrs_short, form_laid}
+use borrow.Author.Rules.{rules}
+use Rattle.model_form.proofs.put_edited.Goals as goal
+
+pub own_after-count-requires : goal.own_after-count-requires
+own_after-count-requires c =
+    owner_low c.requires.0
+
+pub overflow_cast-count : goal.overflow_cast-count
+overflow_cast-count c =
+    omega (arith, c.own_after-count.ensures, own_short c.requires.0 c.requires.1)
+
+pub put_counted-next-requires : goal.put_counted-next-requires
+put_counted-next-requires c =
+    (omega (arith, owner_low c.requires.0), omega (arith, table_short c.requires.0 c.definitions_of-table.ensures))
+
+pub put_own-end-requires : goal.put_own-end-requires
+put_own-end-requires c =
+    (
+      c.requires.0,
+      c.requires.1,
+      omega (arith, c.put_counted-next.ensures.next, counted_short c.requires.0 c.own_after-count.ensures c.definitions_of-table.ensures),
+    )
+
+pub put-requires : goal.put-requires
+put-requires c =
+    omega (
+      arith,
+      c.put_counted-next.ensures.next,
+      c.put_own-end.ensures.next,
+      counted_short c.requires.0 c.own_after-count.ensures c.definitions_of-table.ensures,
+      particles_short c.requires.0 c.requires.1,
+      attrs_short c.requires.0 c.attributes_of.ensures,
+    )
+
+pub returns : goal.returns
+returns c =
+    form_laid c.requires.0 c.own_after-count.ensures c.definitions_of-table.ensures c.attributes_of.ensures
+    c.put_counted-next.ensures c.put_own-end.ensures c.put.ensures

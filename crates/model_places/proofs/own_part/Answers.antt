@@ -1,0 +1,9 @@
+-- `model_places::own_part` meets its contract: the two bodies that are read are the store's, so the part is `partIn`
+-- (`own-model` of PickLaws).
+use Rattle.model_places.proofs.PickLaws.{own_model}
+use borrow.Author.Rules.{rules}
+use Rattle.model_places.proofs.own_part.Goals as goal
+
+pub returns : goal.returns
+returns c =
+    own_model _ _ c.definitions_of-definitions.ensures c.particles_of-particles.ensures c.model_part.ensures

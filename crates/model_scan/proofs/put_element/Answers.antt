@@ -1,0 +1,17 @@
+-- `model_scan::put_element` meets its contract: the particle that is written has the place of the name and the code of
+-- the mark (`element-laid` of PutLaws); the place fits a byte.
+use native.Mathlib.Omega.{arith}
+use Rattle.declaration_scan.specs.Names.{written_names}
+use Rattle.model_scan.proofs.PutLaws.{element_laid}
+use borrow.Author.Rules.{rules}
+use Rattle.model_scan.proofs.put_element.Goals as goal
+
+pub overflow_cast-place : goal.overflow_cast-place
+overflow_cast-place c =
+    omega (arith, c.definition_place-place.ensures.small)
+
+pub returns : goal.returns
+returns c =
+    let a = c.args in
+    element_laid (written_names a.n a.defs.now) a.text.now _ _ c.name_here-name.ensures c.definition_place-place.ensures
+    c.after_name.ensures c.mark_code-mark.ensures c.put_particle.ensures

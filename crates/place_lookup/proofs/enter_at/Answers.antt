@@ -1,0 +1,16 @@
+-- `place_lookup::enter_at` meets its contract: an element is not entered (`enter-element` of EnteringLaws). A group is,
+-- with the part that `span` measures after its particle, and on the spine if the list is and `plain` holds
+-- (`enter-group`).
+use native.Mathlib.Omega.{arith}
+use Rattle.model.proofs.EnteringLaws.{enter_element, enter_group_lem}
+use borrow.Author.Rules.{rules}
+use Rattle.place_lookup.proofs.enter_at.Goals as goal
+
+pub returns-in-Element : goal.returns-in-Element
+returns-in-Element c =
+    enter_element c.args.h c.args.p c.args.s.now _ (omega arith) c.read_particle-x.ensures _ c.in-Element.is
+
+pub returns-in-Group : goal.returns-in-Group
+returns-in-Group c =
+    enter_group_lem c.args.h c.args.p c.args.s.now _ (omega arith) c.read_particle-x.ensures _ _ _ _
+    c.in-Group.is c.span-size.ensures c.plain.ensures

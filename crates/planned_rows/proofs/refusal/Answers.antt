@@ -1,0 +1,29 @@
+-- `planned_rows::refusal` meets its contract: if the most that the plan adds is within the limits, so are its rows
+-- (`refusal-spared` of RefusalLaws); else, where `most_added` gave the number of rows of the filling, the contract of
+-- `filled_refusal` is this one, and where it gave 0, the walk counts all rows (`refusal-counted`).
+use native.Mathlib.Omega.{arith}
+use Rattle.lookup.specs.Bodies.{bodies_of}
+use Rattle.planned_rows.specs.Planned.{rows_after}
+use Rattle.planned_rows.proofs.RefusalLaws.{refusal_spared, refusal_counted}
+use borrow.Author.Rules.{rules}
+use Rattle.planned_rows.proofs.refusal.Goals as goal
+
+pub returns-then-limit-eq0 : goal.returns-then-limit-eq0
+returns-then-limit-eq0 c =
+    let a = c.args in
+    refusal_spared c.width_in-w.ensures a.form a.room (rows_after a.plan a.text.now (bodies_of a.store.now))
+    c.row_count-count.ensures c.next_serial-next.ensures c.most_added-most.ensures.adds c.limit.ensures c.if-limit-eq0.true
+
+pub filled_refusal-requires : goal.filled_refusal-requires
+filled_refusal-requires c =
+    (c.requires.0, c.requires.1, c.requires.2, c.requires.3, omega (arith, c.if-most-gt0.true), c.most_added-most.ensures.one (omega (arith, c.if-most-gt0.true)))
+
+pub returns-then-most-gt0 : goal.returns-then-most-gt0
+returns-then-most-gt0 c = c.filled_refusal.ensures
+
+pub returns : goal.returns
+returns c =
+    let a = c.args in
+    refusal_counted c.width_in-w.ensures a.form a.room
+    (rows_after a.plan a.text.now (bodies_of a.store.now))
+    c.walk_rows-counted.ensures c.limit-2.ensures

@@ -1,0 +1,7 @@
+-- `plans::setting_plan` meets its contract: the return is `settingPlan` but for the field `marks`, which is equal by
+-- the contract of `unmarked`.
+use borrow.Author.Rules.{rules}
+use Rattle.plans.proofs.setting_plan.Goals as goal
+
+pub returns : goal.returns
+returns c = rw c.unmarked.ensures

@@ -1,0 +1,7 @@
+-- `plans::taking_plan` meets its contract: the return is `takingPlan` but for the field `marks`, which is equal by the
+-- contract of `unmarked`.
+use borrow.Author.Rules.{rules}
+use Rattle.plans.proofs.taking_plan.Goals as goal
+
+pub returns : goal.returns
+returns c = rw c.unmarked.ensures

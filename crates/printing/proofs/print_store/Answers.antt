@@ -1,0 +1,13 @@
+-- `printing::print_store` meets its contract: the text of the form, then that of the documents, is the text of the
+-- store (`text-parts` of FormLaws; `laid_then` and `laid_as` of Writers in `codec`).
+use Rattle.lookup.specs.Bodies.{RowsOf}
+use Rattle.codec.proofs.Writers.{laid_then, laid_as}
+use Rattle.printing.proofs.FormLaws.{text_parts}
+use borrow.Author.Rules.{rules}
+use Rattle.printing.proofs.print_store.Goals as goal
+
+pub returns : goal.returns
+returns c =
+    let store_rows : RowsOf c.args.store.now c.width_in-w.result c.from_rows-rows.result.now =
+    record { width = c.width_in-w.ensures; body = c.from_rows-rows.ensures } in
+    laid_as (text_parts store_rows c.row_count-count.ensures.value) (laid_then c.put_form-formed.ensures.laid c.put_documents.ensures)

@@ -1,0 +1,74 @@
+-- `quantifier_calls::requantify` meets its contract: the returns are for a bad store (`bad` of CallLaws), a
+-- condition (`turned-away`) and the answer of `edit_model` (`given-answers` of Requantified); what the calls
+-- require is by `given` of Fitting, `owner-fits` of Fits, `edits-there` of Answering, `given-stands` and `given-sized`.
+use mathlib.Core.Bool.{not}
+use native.Mathlib.Omega.{arith}
+use mathlib.Core.Path.{sym, ◌∙◌, ap}
+use lib.ListN.{length}
+use Rattle.quantifier_refusals.specs.Requantifying.{requantify}
+use Rattle.store_writer.proofs.CallLaws.{passed, bad, turned_away}
+use Rattle.model_edit.proofs.Fits.{owner_fits}
+use Rattle.quantifier_calls.proofs.Fitting.{given as conditions-given}
+use Rattle.quantifier_calls.proofs.Answering.{edits_there}
+use Rattle.quantifier_calls.proofs.Requantified.{given_stands, given_sized, given_answers}
+use borrow.Author.Rules.{rules}
+use Rattle.quantifier_calls.proofs.requantify.Goals as goal
+
+pub returns-then-not-passes : goal.returns-then-not-passes
+returns-then-not-passes c =
+    let a = c.args in
+    bad (requantify a.group a.owner a.place.now a.quantifier a.text.now) a.store.now (length a.out.now) a.out.now
+    (ap not c.if-not-passes.true) c.passes.ensures c.refused.ensures
+
+pub requantify_refusal-found-requires : goal.requantify_refusal-found-requires
+requantify_refusal-found-requires c =
+    passed c.args.store.now (ap not c.if-not-passes.false) c.passes.ensures
+
+pub returns-then-number-ne0 : goal.returns-then-number-ne0
+returns-then-number-ne0 c =
+    let a = c.args in
+    turned_away (requantify a.group a.owner a.place.now a.quantifier a.text.now) a.store.now (length a.out.now) a.out.now
+    (ap not c.if-not-passes.false) c.passes.ensures c.requantify_refusal-found.ensures.0 c.if-number-ne0.true c.refused-then-number-ne0.ensures
+
+pub overflow_cast-quantifier : goal.overflow_cast-quantifier
+overflow_cast-quantifier c =
+    let a = c.args in
+    let none = sym c.requantify_refusal-found.ensures.0 ∙ c.if-number-ne0.false in
+    let given = conditions-given a.store.now (passed a.store.now (ap not c.if-not-passes.false) c.passes.ensures) a.owner a.place.now a.quantifier a.text.now a.group none in
+    omega (arith, given.code)
+
+pub own_part-part-requires : goal.own_part-part-requires
+own_part-part-requires c =
+    let a = c.args in
+    let none = sym c.requantify_refusal-found.ensures.0 ∙ c.if-number-ne0.false in
+    let given = conditions-given a.store.now (passed a.store.now (ap not c.if-not-passes.false) c.passes.ensures) a.owner a.place.now a.quantifier a.text.now a.group none in
+    owner_fits given.fits
+
+pub new_plan-plan-requires : goal.new_plan-plan-requires
+new_plan-plan-requires c =
+    let a = c.args in
+    let none = sym c.requantify_refusal-found.ensures.0 ∙ c.if-number-ne0.false in
+    let given = conditions-given a.store.now (passed a.store.now (ap not c.if-not-passes.false) c.passes.ensures) a.owner a.place.now a.quantifier a.text.now a.group none in
+    let place = c.requantify_refusal-found.ensures.1.found c.if-number-ne0.false in
+    (given_stands place c.own_part-part.ensures given, owner_fits given.fits)
+
+pub edit_model-requires : goal.edit_model-requires
+edit_model-requires c =
+    let a = c.args in
+    let none = sym c.requantify_refusal-found.ensures.0 ∙ c.if-number-ne0.false in
+    let given = conditions-given a.store.now (passed a.store.now (ap not c.if-not-passes.false) c.passes.ensures) a.owner a.place.now a.quantifier a.text.now a.group none in
+    let place = c.requantify_refusal-found.ensures.1.found c.if-number-ne0.false in
+    let new = c.read_quantifier-new.ensures in (
+      edits_there given.fits place new,
+      given.value,
+      given_sized place c.own_part-part.ensures new a.group given c.new_plan-plan.ensures,
+    )
+
+pub returns : goal.returns
+returns c =
+    let a = c.args in
+    let none = sym c.requantify_refusal-found.ensures.0 ∙ c.if-number-ne0.false in
+    let given = conditions-given a.store.now (passed a.store.now (ap not c.if-not-passes.false) c.passes.ensures) a.owner a.place.now a.quantifier a.text.now a.group none in
+    let place = c.requantify_refusal-found.ensures.1.found c.if-number-ne0.false in
+    given_answers place c.own_part-part.ensures c.read_quantifier-new.ensures a.group given c.new_plan-plan.ensures
+    (length a.out.now) _ c.requantify_refusal-found.ensures.0 c.if-number-ne0.false c.edit_model.ensures

@@ -1,0 +1,58 @@
+-- `read_call::read_text` meets its contract: where no form is read, or it is not confirmed, the text is refused with 19
+-- (`none_read`, `form-refused`, `promised-bad` of TextLaws); else the answer for the documents is the call's
+-- (`promised-on`). What is lent of the local array is the form (`array-room`, `array-lent`), and has no rows
+-- (`array-bare`).
+use mathlib.Core.Path.{ap}
+use mathlib.Core.Bool.{not}
+use native.Mathlib.Omega.{arith}
+use Prim.Native.Nat.{ℕ}
+use lib.ListN.{length-replicate}
+use borrow.Author.Rules.{rules}
+use Rattle.rules.specs.Layout.{base_version}
+use Rattle.rules.proofs.DecodeLaws.{width_most}
+use Rattle.read_call.proofs.TextLaws.{promised_bad, read_at_lem, none_read, array_room, array_lent, array_bare, form_refused, form_passes, promised_on}
+use Rattle.read_call.proofs.read_text.Goals as goal
+
+pub read_form-size-requires : goal.read_form-size-requires
+read_form-size-requires c = omega (arith, c.width_of.ensures, width_most base_version)
+
+pub returns-then-size-eq0 : goal.returns-then-size-eq0
+returns-then-size-eq0 c =
+    promised_bad c.args.text.now c.args.out.now c.refused.ensures.0 c.refused.ensures.1
+    (none_read c.args.text.now (read_at_lem c.args.text.now c.width_of.ensures c.read_form-size.ensures) c.if-size-eq0.true)
+
+pub slice_bounds-form-end : goal.slice_bounds-form-end
+slice_bounds-form-end c =
+    array_room c.args.text.now (read_at_lem c.args.text.now c.width_of.ensures c.read_form-size.ensures) c.if-size-eq0.false (length-replicate {A = ℕ} 9768 0)
+
+pub slice_bounds-confirm-end : goal.slice_bounds-confirm-end
+slice_bounds-confirm-end c =
+    array_lent c.args.text.now (read_at_lem c.args.text.now c.width_of.ensures c.read_form-size.ensures) c.if-size-eq0.false (length-replicate {A = ℕ} 9768 0)
+
+pub confirm-front-requires : goal.confirm-front-requires
+confirm-front-requires c =
+    array_bare c.args.text.now (read_at_lem c.args.text.now c.width_of.ensures c.read_form-size.ensures) c.if-size-eq0.false (length-replicate {A = ℕ} 9768 0)
+
+pub returns-then-not-front : goal.returns-then-not-front
+returns-then-not-front c =
+    promised_bad c.args.text.now c.args.out.now c.refused-then-not-front.ensures.0 c.refused-then-not-front.ensures.1
+    (form_refused c.args.text.now (read_at_lem c.args.text.now c.width_of.ensures c.read_form-size.ensures) c.if-size-eq0.false
+    (length-replicate {A = ℕ} 9768 0) c.confirm-front.ensures (ap not c.if-not-front.true))
+
+pub slice_bounds-form-end-2 : goal.slice_bounds-form-end-2
+slice_bounds-form-end-2 c =
+    array_room c.args.text.now (read_at_lem c.args.text.now c.width_of.ensures c.read_form-size.ensures) c.if-size-eq0.false (length-replicate {A = ℕ} 9768 0)
+
+pub slice_bounds-read_documents-end : goal.slice_bounds-read_documents-end
+slice_bounds-read_documents-end c =
+    array_lent c.args.text.now (read_at_lem c.args.text.now c.width_of.ensures c.read_form-size.ensures) c.if-size-eq0.false (length-replicate {A = ℕ} 9768 0)
+
+pub read_documents-requires : goal.read_documents-requires
+read_documents-requires c =
+    form_passes c.args.text.now (read_at_lem c.args.text.now c.width_of.ensures c.read_form-size.ensures) c.if-size-eq0.false
+    (length-replicate {A = ℕ} 9768 0) c.confirm-front.ensures (ap not c.if-not-front.false)
+
+pub returns : goal.returns
+returns c =
+    promised_on c.args.text.now (read_at_lem c.args.text.now c.width_of.ensures c.read_form-size.ensures) c.if-size-eq0.false
+    (length-replicate {A = ℕ} 9768 0) c.confirm-front.ensures (ap not c.if-not-front.false) c.after.ensures c.args.out.now c.read_documents.ensures

@@ -1,0 +1,11 @@
+-- `records::attribute_fits` meets its contract: the owner, the sort, the length and the value that are read are the
+-- record's, so the five tests are those of `attributeFits` (`attribute-of` of CodeLaws).
+use Rattle.records.proofs.CodeLaws.{attribute_of_lem}
+use borrow.Author.Rules.{rules}
+use Rattle.records.proofs.attribute_fits.Goals as goal
+
+pub returns : goal.returns
+returns c =
+    let a = c.args in
+    attribute_of_lem a.w a.n a.rec.now _ _ _ _ c.attribute_owner-owner.ensures c.attribute_sort-sort.ensures c.attribute_length-used.ensures
+    c.attribute_value-value.ensures c.name_fits.ensures c.value_fits.ensures c.is_fill.ensures

@@ -1,0 +1,15 @@
+use mathlib.Core.Path.{sym, ◌∙◌}
+use Prim.Native.Nat.{suc, ◌-◌}
+use borrow.Author.Rules.{rules}
+use native.Mathlib.Omega.{arith}
+use Rattle.serial_check.specs.Trees.{place_below}
+use Rattle.serial_check.proofs.TreeLaws.{Seek, seek_starts, seek_meets, seek_ends, seek_on}
+use Rattle.serial_check.proofs.sought.Given as goal
+
+-- the walk has come to row j with the bits `rest` to go, and no row before it on its way has the serial
+abbrev pub invariant-loop-w : goal.invariant-loop-w
+invariant-loop-w l = Seek l.w l.rows l.below l.from l.s (suc l.j) l.rest
+
+-- each row is a later one than that before it
+abbrev pub decreases-loop-w : goal.decreases-loop-w
+decreases-loop-w l = 4096 - l.j

@@ -1,0 +1,53 @@
+-- `set_attribute_call::set_attribute` meets its contract: the call is refused on a bad store and by a condition
+-- (`bad`, `turned-away` of CallLaws). Else what its calls require holds (`set-attribute-there`, `set-attribute-asks` of
+-- Laws), and the plan does what the change does (`set-attribute-planned` of CallsPlanned, `made-planned` of Calls).
+use mathlib.Core.Path.{ap}
+use mathlib.Core.Bool.{not}
+use borrow.Author.Rules.{rules}
+use lib.ListN.{length}
+use Rattle.rules.specs.Change.{set_attribute}
+use Rattle.store_laws.specs.Stores.{store_in}
+use Rattle.plans.specs.CallPlans.{set_attribute_plan, attribute_serial}
+use Rattle.plans.proofs.CallsPlanned.{set_attribute_planned}
+use Rattle.store_writer.proofs.CallLaws.{passed, bad, turned_away}
+use Rattle.call_laws.proofs.Calls.{made_planned}
+use Rattle.set_attribute_call.proofs.Laws.{set_attribute_asks, set_attribute_there}
+use Rattle.set_attribute_call.proofs.set_attribute.Goals as goal
+
+pub returns-then-not-passes : goal.returns-then-not-passes
+returns-then-not-passes c =
+    bad (set_attribute c.args.element c.args.attribute c.args.value.now) c.args.store.now (length c.args.out.now)
+    c.args.out.now (ap not c.if-not-passes.true) c.passes.ensures c.refused.ensures
+
+pub set_attribute_refusal-number-requires : goal.set_attribute_refusal-number-requires
+set_attribute_refusal-number-requires c =
+    passed c.args.store.now (ap not c.if-not-passes.false) c.passes.ensures
+
+pub returns-then-number-ne0 : goal.returns-then-number-ne0
+returns-then-number-ne0 c =
+    turned_away (set_attribute c.args.element c.args.attribute c.args.value.now) c.args.store.now
+    (length c.args.out.now) c.args.out.now (ap not c.if-not-passes.false) c.passes.ensures
+    c.set_attribute_refusal-number.ensures c.if-number-ne0.true c.refused-then-number-ne0.ensures
+
+pub setting_attribute-plan-requires : goal.setting_attribute-plan-requires
+setting_attribute-plan-requires c =
+    set_attribute_there c.args.store.now (ap not c.if-not-passes.false) c.passes.ensures c.args.element c.args.attribute
+    c.args.value.now c.set_attribute_refusal-number.ensures c.if-number-ne0.false
+
+pub edit-requires : goal.edit-requires
+edit-requires c =
+    set_attribute_asks c.args.store.now (ap not c.if-not-passes.false) c.passes.ensures c.args.element c.args.attribute
+    c.args.value.now c.set_attribute_refusal-number.ensures c.if-number-ne0.false
+    c.setting_attribute-plan.ensures
+
+pub returns : goal.returns
+returns c =
+    made_planned (set_attribute c.args.element c.args.attribute c.args.value.now) c.args.store.now
+    (length c.args.out.now) c.args.out.now
+    (set_attribute_plan c.args.element c.args.attribute
+    (attribute_serial c.args.element c.args.attribute (store_in c.args.store.now)))
+    _ c.args.value.now (ap not c.if-not-passes.false) c.passes.ensures c.set_attribute_refusal-number.ensures
+    c.if-number-ne0.false
+    c.setting_attribute-plan.ensures
+    (λ g e. set_attribute_planned (store_in c.args.store.now) g c.args.element c.args.attribute c.args.value.now e)
+    c.edit.ensures

@@ -1,0 +1,65 @@
+-- `walk_writer::pass` meets its contract: if all rows that may be written stay as they are, the block is what was
+-- passed (`passes-block` of WalkLaws), else the block and the row after it (`passes-row`); both are of an old store
+-- (`rows-within`, `rows-old`, `rows_at`), and their sizes are in range (`size-split`, `block-small` of BlockLaws).
+use Prim.Native.Nat.{ℕ, ◌-◌, ◌*◌, ◌≤◌}
+use native.Mathlib.Omega.{arith}
+use mathlib.Core.Path.{ap, refl}
+use Rattle.rules.specs.Layout.{row_size}
+use Rattle.filling.specs.Parts.{width_in}
+use Rattle.row_writer.proofs.BlockLaws.{size_split, block_small}
+use Rattle.walk_writer.proofs.WalkLaws.{rows_within, rows_old, rows_at, passes_block, passes_row}
+use borrow.Author.Rules.{rules}
+use Rattle.walk_writer.proofs.pass.Goals as goal
+
+pub plain_rows-run-requires : goal.plain_rows-run-requires
+plain_rows-run-requires c =
+    let a = c.args in
+    let w = width_in a.sizes.now in
+    let ready = c.requires.0 in
+    let most = a.count - c.minus.result in
+    let l : most ≤ a.count = omega arith in
+    let long = size_split (row_size w) most a.count l in (
+      ready.width,
+      record { definitions = ready.plan.definitions; attributes = ready.plan.attributes },
+      rows_within w most a.count a.rows.now l c.requires.1,
+      omega (arith, c.requires.2, long),
+      c.requires.3,
+    )
+
+pub put_block-at-requires : goal.put_block-at-requires
+put_block-at-requires c =
+    let a = c.args in
+    let w = width_in a.sizes.now in
+    let run = c.plain_rows-run in
+    let k = run.result.count in
+    let l : k ≤ a.count = omega (arith, run.ensures.few) in
+    let old = rows_old w k a.rows.now (rows_within w k a.count a.rows.now l c.requires.1) in
+    (c.requires.0.width, c.requires.4, old, omega (arith, c.requires.2, size_split (row_size w) k a.count l), omega (arith, run.ensures.few, c.minus.ensures))
+
+pub returns-then-run-most : goal.returns-then-run-most
+returns-then-run-most c =
+    passes_block c.plain_rows-run.ensures c.requires.1 c.requires.2 c.requires.4 (omega arith) c.put_block-at.ensures
+    (omega (arith, c.requires.5, c.requires.6, c.minus.ensures)) (omega (arith, c.minus.ensures)) c.if-run-most.true
+
+pub overflow_mul-size : goal.overflow_mul-size
+overflow_mul-size c =
+    let run = c.plain_rows-run in
+    let few : run.result.count ≤ c.args.c.left = omega (arith, run.ensures.few, c.minus.ensures) in
+    record { fits = omega (arith, block_small c.requires.4 few, ap (λ (i : ℕ). i * run.result.count) c.row_size-size.ensures) }
+
+pub step-s-requires : goal.step-s-requires
+step-s-requires c =
+    let a = c.args in
+    let run = c.plain_rows-run in
+    let row = rows_at (width_in a.sizes.now) run.result.count a.count a.rows.now (omega (arith, run.ensures.few, c.if-run-most.false)) c.requires.1
+    c.row_size-size.ensures refl c.window-row.ensures in
+    (c.requires.0, row, run.ensures.near, c.put_block-at.ensures.room c.requires.4)
+
+pub overflow_add-result : goal.overflow_add-result
+overflow_add-result c =
+    record { fits = omega (arith, c.plain_rows-run.ensures.few, c.ranges) }
+
+pub returns : goal.returns
+returns c =
+    passes_row c.plain_rows-run.ensures c.requires.1 c.requires.2 c.requires.4 (omega arith) c.put_block-at.ensures
+    (omega (arith, c.minus.ensures)) c.if-run-most.false c.row_size-size.ensures refl c.window-row.ensures c.step-s.ensures

@@ -1,6 +1,7 @@
 //! Change 9: an attribute added. The call is the check, the first refusal
 //! that applies, the new form and the plan of the change.
 #![tactic(auto)]
+
 ghost use Rattle.std.specs.Prelude.{length};
 ghost use Rattle.rules.specs.Change.{add_attribute};
 ghost use Rattle.rules.specs.Outcome.{outcome, Answers};

@@ -1,5 +1,6 @@
 //! The form of a store as its bytes, and where an attribute stands in them.
 #![tactic(auto)]
+
 ghost use Rattle.std.specs.Prelude.{◌≡◌, true, ◌≤◌};
 ghost use Rattle.rules.specs.Decode.{read_attribute};
 ghost use Rattle.rules.specs.Passing.{passes};

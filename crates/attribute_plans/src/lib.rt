@@ -1,5 +1,6 @@
 //! The plans of changes 9 and 10, which add and destroy an attribute.
 #![tactic(auto)]
+
 ghost use Rattle.std.specs.Prelude.{◌≡◌, ◌≤◌, ◌<◌, length};
 ghost use Rattle.lookup.specs.Bodies.{bodies_of};
 ghost use Rattle.plans.specs.AttributeCalls.{owner_at, add_attribute_plan, destroy_attribute_plan};

@@ -1,5 +1,6 @@
 //! Which refusal of the changes 9 and 10 applies to a store that passes.
 #![tactic(auto)]
+
 ghost use Rattle.std.specs.Prelude.{◌≡◌, true};
 ghost use Rattle.rules.specs.Bytes.{any};
 ghost use Rattle.rules.specs.Decode.{read_attribute};

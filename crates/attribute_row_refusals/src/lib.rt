@@ -1,5 +1,6 @@
 //! Which refusal of the changes 14 and 15, of the row of an attribute, applies to a store that passes.
 #![tactic(auto)]
+
 ghost use Rattle.std.specs.Prelude.{◌≡◌, true, [], ◌∷◌};
 ghost use Rattle.rules.specs.Passing.{passes};
 ghost use Rattle.rules.specs.Change.{set_attribute, destroy_attribute_row};

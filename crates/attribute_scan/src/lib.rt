@@ -1,5 +1,6 @@
 //! The line of an attribute, read and written as its record.
 #![tactic(auto)]
+
 ghost use Rattle.std.specs.Prelude.{◌≡◌, ◌<◌, ◌≤◌, length, take};
 ghost use Rattle.rules.specs.Layout.{name_width, attribute_bytes};
 ghost use Rattle.codec.specs.Laid.{Laid};

@@ -1,5 +1,6 @@
 //! The one_pass test of a row's children against a model: what a part of the model lets follow what.
 #![tactic(auto)]
+
 ghost use Rattle.std.specs.Prelude.{◌≡◌, ◌<◌, ◌≤◌, length};
 ghost use Rattle.rules.specs.declared.GroupKind.TheVariants.{Sequence, Choice};
 ghost use Rattle.rules.specs.Bytes.{numbers};

@@ -1,5 +1,6 @@
 //! Tests of each byte of a byte string: zeros, the bytes of names, printable ones.
 #![tactic(auto)]
+
 ghost use Rattle.std.specs.Prelude.{◌≡◌, ◌+◌, ◌≤◌, length, take, drop};
 ghost use Rattle.rules.specs.Bytes.{all, between};
 ghost use Rattle.rules.specs.WellFormed.{starts_name, in_name, reserved_name};

@@ -1,5 +1,6 @@
 //! Circles of definitions: whether a definition reaches itself through models, and the height of each that does not.
 #![tactic(auto)]
+
 ghost use Rattle.std.specs.Prelude.{◌≡◌, ◌↔◌, true, ℕ, ◌<◌, ◌≤◌};
 ghost use Rattle.rules.specs.Bytes.{all};
 ghost use Rattle.circle_check.specs.Members.{elements_of, members_in};

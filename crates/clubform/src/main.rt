@@ -1,6 +1,7 @@
 //! The club's race, by the public calls: every number that they answer
 //! is checked, and the text of the last store is printed.
 #![tactic(auto)]
+
 ghost use Rattle.std.specs.Prelude.{◌≡◌, length};
 ghost use Rattle.clubform.specs.History.{stage, last_text, Reads, BufferHolds};
 

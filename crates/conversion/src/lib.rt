@@ -1,5 +1,6 @@
 //! What changes 6 and 7 ask of a model: the kind of the group by its code, and the edits.
 #![tactic(auto)]
+
 ghost use Rattle.std.specs.Prelude.{◌≡◌};
 ghost use Rattle.rules.specs.Edit.{convert, flatten};
 ghost use Rattle.rules.specs.Decode.{group_of};

@@ -1,6 +1,7 @@
 //! Change 6: members converted into a group. The call is the check, the first refusal that applies or the place, and an
 //! edit of the owner's model there; all rows stay.
 #![tactic(auto)]
+
 ghost use Rattle.std.specs.Prelude.{length};
 ghost use Rattle.rules.specs.Change.{convert_to_group};
 ghost use Rattle.rules.specs.Outcome.{outcome, Answers};

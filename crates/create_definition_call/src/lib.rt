@@ -1,5 +1,6 @@
 //! Change 1: a definition created. The call is the check, the first refusal that applies, and the store that is left.
 #![tactic(auto)]
+
 ghost use Rattle.std.specs.Prelude.{length};
 ghost use Rattle.rules.specs.Change.{create_definition};
 ghost use Rattle.rules.specs.Outcome.{outcome, Answers};

@@ -1,5 +1,6 @@
 //! The lines of a form: a definition with its content model, and the attributes of a definition.
 #![tactic(auto)]
+
 ghost use Rattle.std.specs.Prelude.{◌≡◌, true, suc, ◌+◌, ◌<◌, ◌≤◌, length};
 ghost use Rattle.codec.specs.Laid.{Laid};
 ghost use Rattle.rules.specs.Preorder.{build};

@@ -1,5 +1,6 @@
 //! The form that the declarations of a text say, read into the bytes of a store without rows.
 #![tactic(auto)]
+
 ghost use Rattle.std.specs.Prelude.{◌≡◌, true, ◌&&◌, [], ◌∷◌, ◌+◌, ◌*◌, ◌<◌, ◌≤◌, leb, length};
 ghost use Rattle.rules.specs.WellFormed.{within_ceilings};
 ghost use Rattle.rules.specs.Layout.{flat_bytes};

@@ -1,5 +1,6 @@
 //! What stands in a declaration: names, marks, the places of names, the kind of a definition.
 #![tactic(auto)]
+
 ghost use Rattle.std.specs.Prelude.{◌≡◌, ◌*◌, ◌≤◌, length};
 ghost use Rattle.rules.specs.Bytes.{same};
 ghost use Rattle.rules.specs.Decode.{read_definition};

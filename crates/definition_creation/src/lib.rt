@@ -1,5 +1,6 @@
 //! A store with a definition more, the last: the other bodies stay as they are.
 #![tactic(auto)]
+
 ghost use Rattle.std.specs.Prelude.{◌≡◌, true, ◌≤◌, length};
 ghost use Rattle.rules.specs.Layout.{name_width, flat_bytes};
 ghost use Rattle.rules.specs.Passing.{passes};

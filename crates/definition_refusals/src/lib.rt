@@ -1,5 +1,6 @@
 //! Which refusal of changes 1 and 2 applies to a store that passes.
 #![tactic(auto)]
+
 ghost use Rattle.std.specs.Prelude.{◌≡◌, true};
 ghost use Rattle.rules.specs.Passing.{passes};
 ghost use Rattle.rules.specs.Change.{create_definition, destroy_definition};

@@ -1,5 +1,6 @@
 //! A store without one of its definitions: the bodies that are left, with their indices renumbered.
 #![tactic(auto)]
+
 ghost use Rattle.std.specs.Prelude.{◌≡◌, true, ℕ, suc, ◌-◌, ◌≤◌, ◌<◌, length};
 ghost use Rattle.rules.specs.Bytes.{any};
 ghost use Rattle.rules.specs.Layout.{particle_size, attribute_size, row_size, definition_bytes, particle_bytes, attribute_bytes, row_bytes, each, flat_bytes};

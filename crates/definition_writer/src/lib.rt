@@ -1,5 +1,6 @@
 //! The header with other counts, which changes 1 and 2 write, and whether a name is taken, which change 1 asks.
 #![tactic(auto)]
+
 ghost use Rattle.std.specs.Prelude.{◌≡◌, ◌≤◌};
 ghost use Rattle.rules.specs.Decode.{number_at, row_count};
 ghost use Rattle.codec.specs.Laid.{Laid};

@@ -1,5 +1,6 @@
 //! The ceiling of depth: whether a model keeps to it after an edit.
 #![tactic(auto)]
+
 ghost use Rattle.std.specs.Prelude.{◌≡◌, true, ◌<◌};
 ghost use Rattle.model.specs.Members.{particles_of};
 ghost use Rattle.model_writer.specs.Writing.{edit_of, shift, depths_within};

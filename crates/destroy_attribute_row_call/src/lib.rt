@@ -1,6 +1,7 @@
 //! Change 15: the row of an attribute destroyed. The call is the check, the first refusal that applies, and the plan of
 //! the change.
 #![tactic(auto)]
+
 ghost use Rattle.std.specs.Prelude.{length};
 ghost use Rattle.rules.specs.Change.{destroy_attribute_row};
 ghost use Rattle.rules.specs.Outcome.{outcome, Answers};

@@ -1,5 +1,6 @@
 //! Change 13: an element destroyed. The call is the check, the first refusal that applies, and the plan of the change.
 #![tactic(auto)]
+
 ghost use Rattle.std.specs.Prelude.{length};
 ghost use Rattle.rules.specs.Change.{destroy_element};
 ghost use Rattle.rules.specs.Outcome.{outcome, Answers};

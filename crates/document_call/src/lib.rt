@@ -1,5 +1,6 @@
 //! Change 11: a document added. The call is the check, the first refusal that applies, and the plan of the change.
 #![tactic(auto)]
+
 ghost use Rattle.std.specs.Prelude.{length};
 ghost use Rattle.rules.specs.Change.{add_document};
 ghost use Rattle.rules.specs.Outcome.{outcome, Answers};

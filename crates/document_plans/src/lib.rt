@@ -1,5 +1,6 @@
 //! The plans of changes 11 to 16, which change documents.
 #![tactic(auto)]
+
 ghost use Rattle.std.specs.Prelude.{◌≡◌, true, false};
 ghost use Rattle.rules.specs.Passing.{passes};
 ghost use Rattle.rules.specs.Refusal.{no_element};

@@ -1,5 +1,6 @@
 //! The text of the documents, a line each.
 #![tactic(auto)]
+
 ghost use Rattle.std.specs.Prelude.{◌≡◌, suc, ◌+◌, ◌<◌, ◌≤◌, length};
 ghost use Rattle.codec.specs.Laid.{Laid};
 ghost use Rattle.rules.specs.Preorder.{build};

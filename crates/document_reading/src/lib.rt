@@ -1,5 +1,6 @@
 //! The rows that the documents of a text say, judged: some rows at a time, written into an array.
 #![tactic(auto)]
+
 ghost use Rattle.std.specs.Prelude.{◌≡◌, true};
 ghost use Rattle.rules.specs.Passing.{passes};
 ghost use Rattle.form_table.specs.Table.{TableOf};

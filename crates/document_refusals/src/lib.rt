@@ -1,5 +1,6 @@
 //! Which refusal of the changes 11, 12, 13 and 16 applies to a store that passes.
 #![tactic(auto)]
+
 ghost use Rattle.std.specs.Prelude.{◌≡◌, true};
 ghost use Rattle.rules.specs.Passing.{passes};
 ghost use Rattle.rules.specs.Change.{add_document, add_element, destroy_element, set_text};

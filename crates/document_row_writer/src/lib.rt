@@ -1,5 +1,6 @@
 //! The rows that the documents of a text say, written.
 #![tactic(auto)]
+
 ghost use Rattle.std.specs.Prelude.{◌≡◌, true, false, ◌<◌, ◌≤◌, length};
 ghost use Rattle.rules.specs.Layout.{row_bytes, each};
 ghost use Rattle.codec.specs.Laid.{Laid};

@@ -1,5 +1,6 @@
 //! The rows of a store by their serials, the rows right below a row, and whether a model takes them.
 #![tactic(auto)]
+
 ghost use Rattle.std.specs.Prelude.{◌≡◌, true, false, map, length, suc, ◌<◌, ◌≤◌};
 ghost use Rattle.rules.specs.Bytes.{any};
 ghost use Rattle.rules.specs.Lines.{serial_at, children_of, is_element_row, is_text_row};

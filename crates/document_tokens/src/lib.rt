@@ -1,5 +1,6 @@
 //! The tokens of the documents of a text.
 #![tactic(auto)]
+
 ghost use Rattle.std.specs.Prelude.{◌≡◌, ◌&&◌, false, [], ◌≤◌, eqb, length};
 ghost use Rattle.rules.specs.Bytes.{same};
 ghost use Rattle.rules.specs.Decode.{read_attribute};

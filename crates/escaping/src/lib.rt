@@ -1,5 +1,6 @@
 //! The escape of a value in the text of a store.
 #![tactic(auto)]
+
 ghost use Rattle.std.specs.Prelude.{◌≡◌, true, ◌+◌, ◌*◌, ◌<◌, length};
 ghost use Rattle.rules.specs.Print.{escape, escape_byte};
 ghost use Rattle.codec.specs.Laid.{Laid};

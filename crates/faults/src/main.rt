@@ -1,6 +1,7 @@
 //! Checks the store that clubform leaves and one with groups and attributes, each with every kind of fault in turn, and
 //! prints each answer: 0 passes, 1 does not.
 #![tactic(auto)]
+
 ghost use Rattle.std.specs.Prelude.{◌<◌};
 
 use sample_stores::{CLUB, LEGS};

@@ -1,5 +1,6 @@
 //! The filling of a definition, and of an attribute: the rows that a change makes.
 #![tactic(auto)]
+
 ghost use Rattle.std.specs.Prelude.{◌≡◌, ◌+◌, ◌<◌, ◌≤◌, [], ◌∷◌, length, get_or};
 ghost use Rattle.rules.specs.Decode.{quantifier_of};
 ghost use Rattle.rules.specs.Model.{skips, neutral, nothing, unless, filling};

@@ -1,6 +1,7 @@
 //! Change 7: a group flattened. The call is the check, the first refusal that applies or the place, and an edit of the
 //! owner's model there; all rows stay.
 #![tactic(auto)]
+
 ghost use Rattle.std.specs.Prelude.{length};
 ghost use Rattle.rules.specs.Change.{flatten_group};
 ghost use Rattle.rules.specs.Outcome.{outcome, Answers};

@@ -1,5 +1,6 @@
 //! The tests of a form's bodies that look at more than one record. Every loop is bounded by a count of records.
 #![tactic(auto)]
+
 ghost use Rattle.std.specs.Prelude.{◌≡◌, ◌+◌, ◌<◌, drop};
 ghost use Rattle.rules.specs.Bytes.{same, any};
 ghost use Rattle.rules.specs.Layout.{definition_size, particle_size, attribute_size};

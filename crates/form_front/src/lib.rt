@@ -1,5 +1,6 @@
 //! The form that a text declares, confirmed: it prints as the front of the text.
 #![tactic(auto)]
+
 ghost use Rattle.std.specs.Prelude.{◌≡◌, true};
 ghost use Rattle.rules.specs.Passing.{passes};
 ghost use Rattle.form_front.specs.Front.{FrontOf};

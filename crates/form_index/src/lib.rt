@@ -1,6 +1,7 @@
 //! A form by indices: definition i's kind and its part of the particles,
 //! which attributes it needs, which values they may have.
 #![tactic(auto)]
+
 ghost use Rattle.std.specs.Prelude.{◌≡◌, ◌&&◌, ◌*◌, ◌<◌, ◌≤◌, eqb};
 ghost use Rattle.rules.specs.Decode.{sort_of};
 ghost use Rattle.rules.specs.Conforming.{must_be_present, allows};

@@ -1,6 +1,7 @@
 //! The table of a form: a line of 68 sets for each definition, what
 //! next_children::fill writes and the attributes that it needs.
 #![tactic(auto)]
+
 ghost use Rattle.std.specs.Prelude.{◌≡◌, not, ◌<◌, ◌≤◌, length};
 ghost use Rattle.layout.specs.Bodies.{Width};
 ghost use Rattle.sets.specs.Sets.{has};

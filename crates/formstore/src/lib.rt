@@ -1,6 +1,7 @@
 //! The public calls, forwarded to the crates that hold them. Each stands beside an exported function of the same
 //! promise; include/formstore.h declares those.
 #![tactic(auto)]
+
 ghost use Rattle.std.specs.Prelude.{◌≡◌, length};
 ghost use Rattle.rules.specs.Passing.{passes};
 ghost use Rattle.rules.specs.LookUp.{look_up};

@@ -1,5 +1,6 @@
 //! Which refusal of the changes 6 and 7 applies to a store that passes, or the place.
 #![tactic(auto)]
+
 ghost use Rattle.std.specs.Prelude.{◌≡◌, true, false, ◌||◌, not, [], ◌∷◌, ◌*◌, ◌≤◌, drop};
 ghost use Rattle.rules.specs.Layout.{particle_size};
 ghost use Rattle.rules.specs.Edit.{is_one};

@@ -1,5 +1,6 @@
 //! The test of the header: version, next serial, counts, offsets and the length that they give.
 #![tactic(auto)]
+
 ghost use Rattle.std.specs.Prelude.{◌≡◌};
 ghost use Rattle.rules.specs.Decode.{sized};
 ghost use Rattle.layout.specs.Bodies.{Width};

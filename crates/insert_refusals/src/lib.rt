@@ -1,5 +1,6 @@
 //! Which refusal of change 3, which inserts an element into a model, applies to a store that passes, or the place.
 #![tactic(auto)]
+
 ghost use Rattle.std.specs.Prelude.{◌≡◌, true, not, ◌&&◌, ◌<◌, ◌≤◌};
 ghost use Rattle.rules.specs.declared.GroupKind.TheVariants.{Sequence};
 ghost use Rattle.rules.specs.Model.{skips};

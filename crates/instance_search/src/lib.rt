@@ -1,5 +1,6 @@
 //! Whether an instance of a definition exists.
 #![tactic(auto)]
+
 ghost use Rattle.std.specs.Prelude.{◌≡◌, [], ◌∷◌};
 ghost use Rattle.rules.specs.Refusal.{◌if◌, first};
 ghost use Rattle.instance_search.specs.Instances.{has_instance};

@@ -1,6 +1,7 @@
 //! The layout of a store, said once for every width of a value: its shape,
 //! its bodies, the records of a body, the fields of a record.
 #![tactic(auto)]
+
 ghost use Rattle.std.specs.Prelude.{◌≡◌, min, ◌+◌, ◌-◌, ◌*◌, ◌<◌, take, drop};
 ghost use Rattle.rules.specs.Layout.{value_width, header_size, definition_size, particle_size, attribute_size, row_size};
 ghost use Rattle.rules.specs.Decode.{number_at, version_in, next_serial, read_definition, read_particle, read_attribute, read_row, definition_count, particle_count, attribute_count, row_count};

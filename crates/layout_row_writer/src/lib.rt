@@ -1,5 +1,6 @@
 //! The row of a store, written: as far as the buffer goes, saying where the next bytes go.
 #![tactic(auto)]
+
 ghost use Rattle.std.specs.Prelude.{◌≡◌, [], ◌∷◌, ◌++◌, ◌+◌, ◌<◌, ◌≤◌, ◌^◌, length, take, replicate};
 ghost use Rattle.rules.specs.Layout.{row_size, row_bytes, le};
 ghost use Rattle.codec.specs.Laid.{Laid};

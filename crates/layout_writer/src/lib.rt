@@ -1,5 +1,6 @@
 //! The header and the records of a form, written: as far as the buffer goes, each saying where the next bytes go.
 #![tactic(auto)]
+
 ghost use Rattle.std.specs.Prelude.{◌∷◌, ◌+◌, ◌<◌, ◌≤◌, length};
 ghost use Rattle.rules.specs.Layout.{name_width, attribute_size, entry, field, definition_bytes, particle_bytes, attribute_bytes};
 ghost use Rattle.codec.specs.Laid.{Laid};

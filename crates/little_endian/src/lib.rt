@@ -1,5 +1,6 @@
 //! Numbers from their bytes, the lowest first.
 #![tactic(auto)]
+
 ghost use Rattle.std.specs.Prelude.{◌≡◌, ◌+◌, ◌*◌};
 
 pub fn wide(x: u8) -> u32

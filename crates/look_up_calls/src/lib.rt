@@ -1,5 +1,6 @@
 //! The calls that write nothing: the check of a store, and the look-up of a value.
 #![tactic(auto)]
+
 ghost use Rattle.std.specs.Prelude.{◌≡◌};
 ghost use Rattle.rules.specs.Passing.{passes};
 ghost use Rattle.rules.specs.LookUp.{look_up};

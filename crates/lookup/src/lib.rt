@@ -1,5 +1,6 @@
 //! The value of the attribute or text row with a serial, as a part of the store.
 #![tactic(auto)]
+
 ghost use Rattle.std.specs.Prelude.{◌≡◌, ◌+◌, ◌<◌, length};
 ghost use Rattle.lookup.specs.Bodies.{RowsBegin, RowPlace, from_rows, row_part};
 ghost use Rattle.lookup.specs.Finding.{Looks, Hands, found_on, found_row_at};

@@ -1,5 +1,6 @@
 //! The plans of changes 3 and 4, which insert and remove an element of a model.
 #![tactic(auto)]
+
 ghost use Rattle.std.specs.Prelude.{◌≡◌, not, ◌&&◌, ◌*◌, ◌≤◌, drop};
 ghost use Rattle.rules.specs.Model.{skips};
 ghost use Rattle.rules.specs.Layout.{particle_size};

@@ -1,5 +1,6 @@
 //! Content models: a definition's part of the particle body.
 #![tactic(auto)]
+
 pub mod place;
 
 ghost use Rattle.std.specs.Prelude.{◌≡◌, ◌≤◌, length, drop};

@@ -1,5 +1,6 @@
 //! Whether particles are the preorder of a model. Every loop is bounded by a count of particles.
 #![tactic(auto)]
+
 ghost use Rattle.std.specs.Prelude.{◌≡◌, ◌+◌, ◌<◌, ◌≤◌, drop};
 ghost use Rattle.rules.specs.Bytes.{any};
 ghost use Rattle.model_check.specs.ModelTests.{model_fits};

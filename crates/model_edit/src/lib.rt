@@ -1,5 +1,6 @@
 //! The store with one model edited: the ceilings of the form after the edit, and the rows by a plan.
 #![tactic(auto)]
+
 ghost use Rattle.std.specs.Prelude.{◌≡◌, true, length};
 ghost use Rattle.rules.specs.WellFormed.{is_value, within_ceilings};
 ghost use Rattle.rules.specs.Outcome.{Answers};

@@ -1,5 +1,6 @@
 //! The form after an edit of one model: how many particles it has, and its bytes.
 #![tactic(auto)]
+
 ghost use Rattle.std.specs.Prelude.{◌≡◌, true, ◌+◌, ◌-◌, ◌<◌, ◌≤◌};
 ghost use Rattle.rules.specs.Decode.{particle_count};
 ghost use Rattle.rules.specs.Layout.{each, particle_bytes};

@@ -1,5 +1,6 @@
 //! What a place leads to in a model of a store that passes, and what the changes 3 to 8 ask of the list that holds it.
 #![tactic(auto)]
+
 ghost use Rattle.std.specs.Prelude.{◌≡◌, true, ◌*◌, ◌<◌, ◌≤◌, drop};
 ghost use Rattle.rules.specs.Layout.{particle_size, how_many};
 ghost use Rattle.rules.specs.Edit.{same_kind};

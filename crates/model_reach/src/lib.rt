@@ -1,5 +1,6 @@
 //! Whether a definition stands in the model of another, or reaches it.
 #![tactic(auto)]
+
 ghost use Rattle.std.specs.Prelude.{◌≡◌, true, not, ◌<◌, eqb};
 ghost use Rattle.rules.specs.Bytes.{all};
 ghost use Rattle.rules.specs.Decode.{definition_count};

@@ -1,5 +1,6 @@
 //! The particles of a content model, by its text: measured and written.
 #![tactic(auto)]
+
 ghost use Rattle.std.specs.Prelude.{◌≡◌, true, false, [], suc, ◌+◌, ◌*◌, ◌%◌, ◌<◌, ◌≤◌, length};
 ghost use Rattle.rules.specs.Layout.{each, particle_bytes, particle_size};
 ghost use Rattle.codec.specs.Laid.{Laid};

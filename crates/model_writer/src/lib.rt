@@ -1,5 +1,6 @@
 //! The particles of a form after an edit of one model: changes 3 to 8.
 #![tactic(auto)]
+
 ghost use Rattle.std.specs.Prelude.{◌≡◌, ◌+◌, ◌*◌, ◌%◌, ◌<◌, length, take, drop};
 ghost use Rattle.rules.specs.Layout.{particle_size, each, particle_bytes, group_code};
 ghost use Rattle.rules.specs.Edit.{insert, quantify, convert};

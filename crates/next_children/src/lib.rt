@@ -2,6 +2,7 @@
 //! definition indices where `automaton` has the truth of one. And a table of these
 //! sets, so that a model is folded once and looked up afterwards.
 #![tactic(auto)]
+
 ghost use Rattle.std.specs.Prelude.{◌≡◌, ◌+◌, ◌<◌, ◌≤◌, length};
 ghost use Rattle.rules.specs.declared.GroupKind.TheVariants.{Sequence, Choice};
 ghost use Rattle.rules.specs.Bytes.{numbers};

@@ -1,5 +1,6 @@
 //! Whether a row may come next at a level, and whether a level may end.
 #![tactic(auto)]
+
 ghost use Rattle.std.specs.Prelude.{◌≡◌, ◌<◌, ◌≤◌, eqb, length};
 ghost use Rattle.rules.specs.Decode.{read_row};
 ghost use Rattle.layout.specs.Bodies.{Width};

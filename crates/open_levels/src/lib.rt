@@ -1,5 +1,6 @@
 //! The levels that are open in a state of the walk over the tree rows: whether they are owed nothing.
 #![tactic(auto)]
+
 ghost use Rattle.std.specs.Prelude.{◌≡◌, ◌≤◌};
 ghost use Rattle.form_index.specs.Reading.{form_by};
 ghost use Rattle.form_table.specs.Table.{TabledForm};

@@ -1,5 +1,6 @@
 //! What a place of a model leads to. Positions are counted in particles.
 #![tactic(auto)]
+
 ghost use Rattle.std.specs.Prelude.{◌≡◌, ◌+◌, ◌*◌, ◌<◌, ◌≤◌, ◌^◌, length};
 ghost use Rattle.rules.specs.Layout.{particle_size};
 ghost use Rattle.rules.specs.Place.{plain};

@@ -1,6 +1,7 @@
 //! Marks of the definitions around a place of a model: new rows stand
 //! after the children that belong to earlier particles.
 #![tactic(auto)]
+
 ghost use Rattle.std.specs.Prelude.{◌≡◌, ◌≤◌};
 ghost use Rattle.circle_check.specs.Members.{elements_of};
 ghost use Rattle.place_marks.specs.Marking.{marked_first, marked, marks_at};

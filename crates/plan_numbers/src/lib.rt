@@ -1,5 +1,6 @@
 //! A plan as the numbers that it is lent as (see `row_walk`).
 #![tactic(auto)]
+
 ghost use Rattle.std.specs.Prelude.{◌≡◌, [], eqb, get_or};
 ghost use Rattle.row_walk.specs.Lent.{which_in, later_in, filling_in, plan_in};
 ghost use Rattle.plan_numbers.specs.Refilled.{refilled};

@@ -1,5 +1,6 @@
 //! The bytes of a store after a plan, for which there is room: its rows, then its header and its form.
 #![tactic(auto)]
+
 ghost use Rattle.std.specs.Prelude.{◌≡◌, true, ◌++◌, ◌+◌, length};
 ghost use Rattle.rules.specs.Layout.{flat_bytes};
 ghost use Rattle.rules.specs.Decode.{number_at};

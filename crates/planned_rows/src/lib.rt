@@ -1,6 +1,7 @@
 //! The rows of a store after a plan: the walk that writes them, how many they are at most, and whether the store with
 //! them is within the limits.
 #![tactic(auto)]
+
 ghost use Rattle.std.specs.Prelude.{◌≡◌, true, ◌+◌, ◌<◌, ◌≤◌, length};
 ghost use Rattle.rules.specs.Decode.{number_at, row_count};
 ghost use Rattle.rules.specs.Passing.{passes};

@@ -1,6 +1,7 @@
 //! The plans by indices of the changes, and that the walk over the rows with a plan does what the change of the rules
 //! does to the documents.
 #![tactic(auto)]
+
 ghost use Rattle.std.specs.Prelude.{◌≡◌};
 ghost use Rattle.plans.specs.CallPlans.{unmarked, filling_plan, taking_plan, setting_plan, set_attribute_plan};
 ghost use Rattle.plans.specs.AttributeCalls.{add_attribute_plan, destroy_attribute_plan};

@@ -1,5 +1,6 @@
 //! A store that is carried through the sixteen changes, each of which prints its number.
 #![tactic(auto)]
+
 use store_writer::Answer;
 
 /// The first `length` bytes are the store.

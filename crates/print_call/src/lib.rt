@@ -1,5 +1,6 @@
 //! The print of a store.
 #![tactic(auto)]
+
 ghost use Rattle.std.specs.Prelude.{length};
 ghost use Rattle.rules.specs.Outcome.{Answers};
 ghost use Rattle.rules.specs.Print.{print_outcome};

@@ -1,5 +1,6 @@
 //! The text of a store: its form as declarations, and its documents, a line each.
 #![tactic(auto)]
+
 ghost use Rattle.std.specs.Prelude.{◌<◌};
 ghost use Rattle.codec.specs.Laid.{Laid};
 ghost use Rattle.rules.specs.Decode.{read_definition, definition_count, particle_count, attribute_count};

@@ -1,5 +1,6 @@
 //! What the text of a store is made of: the records of its form, by their numbers, and their names.
 #![tactic(auto)]
+
 ghost use Rattle.std.specs.Prelude.{◌≡◌, ◌<◌};
 ghost use Rattle.rules.specs.Decode.{name_at};
 ghost use Rattle.printing_parts.specs.Parts.{Named, definition_part, particle_part, attribute_part, names_of, attribute_names_of};

@@ -1,6 +1,7 @@
 //! Changes 5 and 8: the quantifier of an element, and of a group. Both are one call: the check, the first refusal that
 //! applies or the place, and an edit of the owner's model there with the plan of the change.
 #![tactic(auto)]
+
 ghost use Rattle.std.specs.Prelude.{length};
 ghost use Rattle.rules.specs.Outcome.{outcome, Answers};
 ghost use Rattle.quantifier_refusals.specs.Requantifying.{requantify};

@@ -1,5 +1,6 @@
 //! The plans of changes 5 and 8: the quantifier of an element, and of a group.
 #![tactic(auto)]
+
 ghost use Rattle.std.specs.Prelude.{◌≡◌, ◌≤◌};
 ghost use Rattle.model_form.specs.Editing.{start_in};
 ghost use Rattle.quantifier_plans.specs.Quantifying.{Stands, group_span, element_plan, group_plan, new_plan};

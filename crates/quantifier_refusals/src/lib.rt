@@ -1,5 +1,6 @@
 //! Which refusal of the changes 5 and 8 applies to a store that passes, or the place.
 #![tactic(auto)]
+
 ghost use Rattle.std.specs.Prelude.{◌≡◌, true, false};
 ghost use Rattle.rules.specs.Quantifiers.{many, gains, cuts};
 ghost use Rattle.rules.specs.Passing.{passes};

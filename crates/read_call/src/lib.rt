@@ -1,5 +1,6 @@
 //! Reading a printed text: the form that it declares, confirmed; then its documents, judged before a byte is written.
 #![tactic(auto)]
+
 ghost use Rattle.std.specs.Prelude.{◌≡◌, true, length};
 ghost use Rattle.rules.specs.Layout.{base_version};
 ghost use Rattle.rules.specs.Decode.{row_count};

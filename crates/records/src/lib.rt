@@ -1,5 +1,6 @@
 //! The tests of single records, on their bytes. All are total: a byte past the end counts 0.
 #![tactic(auto)]
+
 ghost use Rattle.std.specs.Prelude.{◌≡◌, take, drop};
 ghost use Rattle.rules.specs.Layout.{definition_size, attribute_size};
 ghost use Rattle.rules.specs.Decode.{sort_of};

@@ -1,6 +1,7 @@
 //! Change 4, which removes an element. The call is the check, the first refusal that applies or the place, and an edit
 //! of the owner's model there with the plan of the change.
 #![tactic(auto)]
+
 ghost use Rattle.std.specs.Prelude.{length};
 ghost use Rattle.rules.specs.Change.{remove_element};
 ghost use Rattle.rules.specs.Outcome.{outcome, Answers};

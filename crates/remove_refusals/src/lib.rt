@@ -1,5 +1,6 @@
 //! Which refusal of change 4 applies to a store that passes, or the place.
 #![tactic(auto)]
+
 ghost use Rattle.std.specs.Prelude.{◌≡◌, true, false, ◌≤◌};
 ghost use Rattle.rules.specs.declared.GroupKind.TheVariants.{Choice};
 ghost use Rattle.rules.specs.Model.{nothing};

@@ -4,6 +4,7 @@
 //! of a walk hands on 130 bytes and nothing else: if the answer hung on more, fewer answers than places would be the
 //! same.
 #![tactic(auto)]
+
 ghost use Rattle.std.specs.Prelude.{◌≡◌, true, ◌*◌, ◌<◌, ◌≤◌, length};
 ghost use Rattle.rules.specs.Layout.{row_size};
 ghost use Rattle.layout.specs.Bodies.{width_of};

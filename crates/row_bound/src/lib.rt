@@ -1,5 +1,6 @@
 //! How many rows the walk with a plan adds at most: the rows of one filling at each place that may be filled.
 #![tactic(auto)]
+
 ghost use Rattle.std.specs.Prelude.{◌≡◌, ◌+◌, ◌*◌, ◌≤◌, length};
 ghost use Rattle.rules.specs.Layout.{row_size};
 ghost use Rattle.rules.specs.Decode.{read_row, read_many};

@@ -1,6 +1,7 @@
 //! One walk over the tree rows, for their fields and serials, their depths, and whether they are those of documents that
 //! conform (paper 02, W3): by the bytes before the tree body, from a state on, over any number of rows.
 #![tactic(auto)]
+
 ghost use Rattle.std.specs.Prelude.{◌≡◌, ◌*◌, ◌≤◌, length};
 ghost use Rattle.rules.specs.Layout.{row_size};
 ghost use Rattle.layout.specs.Bodies.{width_of};

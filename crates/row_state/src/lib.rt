@@ -1,5 +1,6 @@
 //! The state of the walk over the tree rows, which is bytes: what it says of a depth, and the state after a row.
 #![tactic(auto)]
+
 ghost use Rattle.std.specs.Prelude.{◌≡◌, ◌<◌, ◌≤◌, length};
 ghost use Rattle.rules.specs.Decode.{read_row};
 ghost use Rattle.row_state.specs.State.{seen_at, level_at, with_attribute, with_text, with_element, stepped, RoomFor};

@@ -1,5 +1,6 @@
 //! The step of the walk over the tree rows: whether a row may come, and the state after it.
 #![tactic(auto)]
+
 ghost use Rattle.std.specs.Prelude.{◌≡◌, ◌&&◌};
 ghost use Rattle.rules.specs.Decode.{read_row};
 ghost use Rattle.records.specs.Records.{row_fits, serial_fits};

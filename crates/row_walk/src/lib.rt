@@ -1,6 +1,7 @@
 //! What a change does to the tree rows: the plan that changes 2 to 16 share, and the tests of one row that the walk
 //! over the rows makes by it.
 #![tactic(auto)]
+
 ghost use Rattle.std.specs.Prelude.{◌≡◌, [], ◌+◌, ◌≤◌};
 ghost use Rattle.row_walk.specs.Walk.{matches, is_later, spared, shifted, moved_index, is_below_taken, closes, closed, is_below, is_taken, is_filled, after_taken, at_first};
 ghost use Rattle.row_walk.specs.Lent.{which_in, plan_in};

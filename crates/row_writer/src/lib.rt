@@ -1,5 +1,6 @@
 //! Tree rows written one after the other: new ones, and old ones that are kept.
 #![tactic(auto)]
+
 ghost use Rattle.std.specs.Prelude.{[], ◌∷◌, ◌*◌, ◌<◌, ◌≤◌, length};
 ghost use Rattle.rules.specs.Layout.{row_size};
 ghost use Rattle.rules.specs.Decode.{read_row, read_many};

@@ -15,7 +15,7 @@ use Rattle.rules.specs.declared.Quantifier.TheVariants.{None, Qmark, Star, Plus}
 use Rattle.rules.specs.declared.GroupKind.{GroupKind}
 use Rattle.rules.specs.declared.GroupKind.TheVariants.{Sequence, Choice}
 use Rattle.rules.specs.Bytes.{Bytes, same, all, between, bytes, is_none, and_left, and_right}
-use Rattle.rules.specs.Model.{Members, done, el, group, names, distinct}
+use Rattle.rules.specs.Model.{Members, done, el, group, names}
 use Rattle.rules.specs.Language.{Conforms}
 use Rattle.rules.specs.Automaton.{accepts}
 use Rattle.rules.specs.Store.{Content, empty, pcdata, complex, AttributeSort, implied, required, fixed, Attribute, Definition, Form, RowSort, element}

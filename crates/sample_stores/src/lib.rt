@@ -1,5 +1,6 @@
 //! Stores that programs try calls on.
 #![tactic(auto)]
+
 ghost use Rattle.std.specs.Prelude.{◌<◌};
 
 // The store that clubform leaves.

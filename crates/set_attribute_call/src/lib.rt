@@ -1,6 +1,7 @@
 //! Change 14: the row of an attribute set. The call is the check, the first refusal that applies, and the plan of the
 //! change.
 #![tactic(auto)]
+
 ghost use Rattle.std.specs.Prelude.{length};
 ghost use Rattle.rules.specs.Change.{set_attribute};
 ghost use Rattle.rules.specs.Outcome.{outcome, Answers};

@@ -1,5 +1,6 @@
 //! The check: whether a byte string is a store.
 #![tactic(auto)]
+
 ghost use Rattle.std.specs.Prelude.{◌≡◌, ◌↔◌, true};
 ghost use Rattle.rules.specs.Decode.{row_count};
 ghost use Rattle.rules.specs.Passing.{passes};

@@ -1,6 +1,7 @@
 //! Whether a store is too large, by its numbers: the ceiling of its rows, its serials, the room for its bytes; the
 //! ceiling of its attributes.
 #![tactic(auto)]
+
 ghost use Rattle.std.specs.Prelude.{◌≡◌, ◌≤◌, leb};
 ghost use Rattle.layout.specs.Bodies.{Width, most_form};
 ghost use Rattle.store_limits.specs.Limits.{limit_of};

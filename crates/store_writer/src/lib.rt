@@ -1,5 +1,6 @@
 //! The store that a change leaves, written whole where it keeps within the ceilings, the serials and the room.
 #![tactic(auto)]
+
 ghost use Rattle.std.specs.Prelude.{◌≡◌, true, ◌++◌, ◌+◌, length};
 ghost use Rattle.rules.specs.Layout.{flat_bytes};
 ghost use Rattle.rules.specs.Decode.{number_at};

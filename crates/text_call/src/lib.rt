@@ -1,6 +1,7 @@
 //! Change 16: the text of an element set. The call is the check, the
 //! first refusal that applies, and the plan of the change.
 #![tactic(auto)]
+
 ghost use Rattle.std.specs.Prelude.{length};
 ghost use Rattle.rules.specs.Change.{set_text};
 ghost use Rattle.rules.specs.Outcome.{outcome, Answers};

@@ -1,5 +1,6 @@
 //! Words on texts: names, lines, values.
 #![tactic(auto)]
+
 ghost use Rattle.std.specs.Prelude.{◌≡◌, not, eqb, length, get_or, drop, ℕ, ◌+◌, ◌<◌};
 ghost use Rattle.rules.specs.WellFormed.{in_name};
 ghost use Rattle.text_scan.specs.Scan.{front_while, starts_with, escaped_at, plain_at, StandsFor, Unescapes};

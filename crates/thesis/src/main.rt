@@ -1,5 +1,6 @@
 //! The thesis' fourteen examples on Article.dtd and its sample document: the number of each call, the text after it.
 #![tactic(auto)]
+
 mod article;
 mod examples;
 

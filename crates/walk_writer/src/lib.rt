@@ -1,6 +1,7 @@
 //! The one walk over the tree rows that changes 2 to 16 share: it keeps, takes with all below, gives a value, puts
 //! fillings in and renumbers, as a plan says.
 #![tactic(auto)]
+
 ghost use Rattle.std.specs.Prelude.{◌≡◌, false, [], ◌∷◌, ◌*◌, ◌<◌, ◌≤◌, length};
 ghost use Rattle.rules.specs.Layout.{row_size};
 ghost use Rattle.rules.specs.Decode.{read_row, read_many};

@@ -23,8 +23,7 @@ adding_plan-plan-requires c =
 
 pub put_added-length-requires : goal.put_added-length-requires
 put_added-length-requires c =
-    let few = leb-false 64 c.attribute_count-a.result (sym c.attributes_full.ensures ∙ c.if-attributes_full.false) in
-    (
+    let few = leb-false 64 c.attribute_count-a.result (sym c.attributes_full.ensures ∙ c.if-attributes_full.false) in (
       c.requires,
       c.attributes_to-i.ensures.most,
       omega (arith, few, c.attributes_to-i.ensures.most, number_of_attributes c.args.store.now c.attribute_count-a.ensures),

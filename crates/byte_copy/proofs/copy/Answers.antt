@@ -2,12 +2,11 @@
 -- Else each step copies eight bytes more, and the last call the last eight, some of which may be copied already
 -- (`copy-part` of CopyLaws).
 use mathlib.Core.Path.{◌≡◌, refl, ap, ◌∙◌}
-use mathlib.Core.List.{List, ◌++◌}
-use Prim.Native.Nat.{ℕ, ◌+◌, ◌≤◌, ◌-◌, zero-le}
+use mathlib.Core.List.{List}
+use Prim.Native.Nat.{ℕ, ◌+◌, ◌-◌, zero-le}
 use native.Mathlib.Omega.{arith}
 use lib.ListN.{length, take, drop}
 use lib.Seq.{sets, take-length}
-use borrow.Author.Rules.{rules}
 use Rattle.byte_copy.proofs.CopyLaws.{copy_part}
 use Rattle.byte_copy.proofs.copy.Goals as goal
 

@@ -1,11 +1,7 @@
-use mathlib.Core.Path.{◌≡◌, refl, ap, ◌∙◌}
-use mathlib.Core.List.{List, ◌++◌}
-use Prim.Native.Nat.{ℕ, ◌+◌, ◌≤◌, ◌-◌, zero-le}
-use native.Mathlib.Omega.{arith}
+use mathlib.Core.Path.{◌≡◌}
+use mathlib.Core.List.{◌++◌}
+use Prim.Native.Nat.{◌≤◌, ◌-◌}
 use lib.ListN.{length, take, drop}
-use lib.Seq.{sets, take-length}
-use borrow.Author.Rules.{rules}
-use Rattle.byte_copy.proofs.CopyLaws.{copy_part}
 use Rattle.byte_copy.proofs.copy.Given as goal
 
 -- The loop's invariant: the first i bytes of `out` are those of `src`; the others are as they were.

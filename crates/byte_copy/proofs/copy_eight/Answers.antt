@@ -1,11 +1,9 @@
 -- `byte_copy::copy_eight` meets its contract: the eight writes, one after the other, are `sets` of the eight bytes from
 -- i on (`eight-stored` of CopyLaws). A write keeps the length of `out` (`length-set` of ListN), so that each place is
 -- in range.
-use mathlib.Core.Path.{refl}
 use native.Mathlib.Omega.{arith}
 use lib.ListN.{length-set}
 use Rattle.byte_copy.proofs.CopyLaws.{eight_stored}
-use borrow.Author.Rules.{rules}
 use Rattle.byte_copy.proofs.copy_eight.Goals as goal
 
 pub bounds-out-i-2 : goal.bounds-out-i-2

@@ -1,11 +1,10 @@
 -- `byte_copy::copy_singly` meets its contract: each step copies one byte more (`copy_more` of CopyLaws), and the loop
 -- ends where i is the length of `src`, so that all of it is copied (`take-length` of Seq).
 use mathlib.Core.Path.{◌≡◌, refl, ◌∙◌}
-use mathlib.Core.List.{◌++◌}
-use Prim.Native.Nat.{◌≤◌, ◌<◌, ◌-◌, zero-le}
+use Prim.Native.Nat.{◌<◌, zero-le}
 use native.Mathlib.Omega.{arith}
 use native.Mathlib.Numerals.{add-one}
-use lib.ListN.{length, take, drop, length-set}
+use lib.ListN.{length, length-set}
 use lib.Seq.{take-length}
 use Rattle.byte_copy.proofs.CopyLaws.{copy_more}
 use Rattle.byte_copy.proofs.copy_singly.Goals as goal

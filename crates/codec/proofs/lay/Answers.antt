@@ -17,13 +17,12 @@ pub loop-i-smaller : goal.loop-i-smaller
 loop-i-smaller c = omega arith
 
 pub loop-i-preserved : goal.loop-i-preserved
-loop-i-preserved c =
-    (
-      omega arith,
-      lay_step c.args.src.now c.loop-i.out c.store.new.out _ c.loop-i.i _ (omega arith) (cc) c.store.ensures
-          c.loop-i.invariant.1,
-      c.store.auto.out ∙ c.loop-i.invariant.2,
-    )
+loop-i-preserved c = (
+  omega arith,
+  lay_step c.args.src.now c.loop-i.out c.store.new.out _ c.loop-i.i _ (omega arith) (cc) c.store.ensures
+      c.loop-i.invariant.1,
+  c.store.auto.out ∙ c.loop-i.invariant.2,
+)
 
 pub returns : goal.returns
 returns c =

@@ -6,22 +6,21 @@ use borrow.Author.Rules.{rules}
 use Rattle.declaration_printing.proofs.put_attribute_line.Goals as goal
 
 pub put_default-valued-requires : goal.put_default-valued-requires
-put_default-valued-requires c =
-    (
-      omega (arith, c.requires.0, c.requires.3),
-      omega (
-        arith,
-        c.requires.0,
-        c.requires.1,
-        c.requires.2,
-        c.attribute_name_of.ensures.short,
-        c.put-signed.ensures.next,
-        c.put-owned.ensures.next,
-        c.put_u8-spaced.ensures.next,
-        c.put-named.ensures.next,
-        c.put-typed.ensures.next,
-      ),
-    )
+put_default-valued-requires c = (
+  omega (arith, c.requires.0, c.requires.3),
+  omega (
+    arith,
+    c.requires.0,
+    c.requires.1,
+    c.requires.2,
+    c.attribute_name_of.ensures.short,
+    c.put-signed.ensures.next,
+    c.put-owned.ensures.next,
+    c.put_u8-spaced.ensures.next,
+    c.put-named.ensures.next,
+    c.put-typed.ensures.next,
+  ),
+)
 
 pub put-requires : goal.put-requires
 put-requires c =

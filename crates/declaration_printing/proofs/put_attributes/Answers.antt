@@ -20,13 +20,12 @@ attribute-requires c =
     omega (arith, c.requires.0, c.requires.1, c.requires.2, c.loop-i.invariant.counts, c.loop-i.invariant.small, c.loop-i.invariant.upto)
 
 pub put_attribute_line-at-requires : goal.put_attribute_line-at-requires
-put_attribute_line-at-requires c =
-    (
-      omega (arith, c.requires.0, c.requires.1, c.requires.2, c.loop-i.invariant.counts, c.loop-i.invariant.small, c.loop-i.invariant.upto),
-      omega (arith, c.requires.0, c.requires.1, c.requires.2, c.loop-i.invariant.counts, c.loop-i.invariant.small, c.loop-i.invariant.upto),
-      c.requires.2,
-      c.requires.0,
-    )
+put_attribute_line-at-requires c = (
+  omega (arith, c.requires.0, c.requires.1, c.requires.2, c.loop-i.invariant.counts, c.loop-i.invariant.small, c.loop-i.invariant.upto),
+  omega (arith, c.requires.0, c.requires.1, c.requires.2, c.loop-i.invariant.counts, c.loop-i.invariant.small, c.loop-i.invariant.upto),
+  c.requires.2,
+  c.requires.0,
+)
 
 pub loop-i-preserved-then-attribute_owner-o : goal.loop-i-preserved-then-attribute_owner-o
 loop-i-preserved-then-attribute_owner-o c =

@@ -14,13 +14,12 @@ use Rattle.rules.proofs.WellFormedLaws.{none_value}
 use Rattle.definition_removal.proofs.put_rows_left.Goals as goal
 
 pub walk_rows-after-requires : goal.walk_rows-after-requires
-walk_rows-after-requires c =
-    (
-      c.requires.0.good,
-      none_value (width_of c.args.store.now),
-      subst (λ (q : Plan). Sized q) (sym c.shifting-plan.ensures) (sized _ _ _),
-      omega (arith, c.requires.1),
-    )
+walk_rows-after-requires c = (
+  c.requires.0.good,
+  none_value (width_of c.args.store.now),
+  subst (λ (q : Plan). Sized q) (sym c.shifting-plan.ensures) (sized _ _ _),
+  omega (arith, c.requires.1),
+)
 
 pub returns : goal.returns
 returns c =

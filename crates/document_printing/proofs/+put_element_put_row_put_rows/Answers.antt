@@ -36,27 +36,26 @@ put_element-put-named-requires t c =
     omega (arith, c.requires.1.0.room, c.requires.1.0.few, c.requires.1.1, c.requires.1.2, c.requires.1.3, c.put_u8-signed.ensures.next)
 
 pub put_element-put_rows-below-requires : goal.put_element-put_rows-below-requires
-put_element-put_rows-below-requires t c =
-    (
-      omega (arith, c.requires.1.0.room, c.requires.1.0.few, c.requires.1.1, c.requires.1.2, c.requires.1.3),
-      (
-        record {
-          few = omega (arith, c.requires.1.0.room, c.requires.1.0.few, c.requires.1.1, c.requires.1.2, c.requires.1.3);
-          deep = omega (arith, c.requires.1.0.room, c.requires.1.0.few, c.requires.1.1, c.requires.1.2, c.requires.1.3);
-          room = omega (
-            arith,
-            c.requires.1.0.room,
-            c.requires.1.0.few,
-            c.requires.1.1,
-            c.requires.1.2,
-            c.requires.1.3,
-            c.put_u8-signed.ensures.next,
-            c.put-named.ensures.next,
-          );
-        },
-        c.requires.1.4,
-      ),
-    )
+put_element-put_rows-below-requires t c = (
+  omega (arith, c.requires.1.0.room, c.requires.1.0.few, c.requires.1.1, c.requires.1.2, c.requires.1.3),
+  (
+    record {
+      few = omega (arith, c.requires.1.0.room, c.requires.1.0.few, c.requires.1.1, c.requires.1.2, c.requires.1.3);
+      deep = omega (arith, c.requires.1.0.room, c.requires.1.0.few, c.requires.1.1, c.requires.1.2, c.requires.1.3);
+      room = omega (
+        arith,
+        c.requires.1.0.room,
+        c.requires.1.0.few,
+        c.requires.1.1,
+        c.requires.1.2,
+        c.requires.1.3,
+        c.put_u8-signed.ensures.next,
+        c.put-named.ensures.next,
+      );
+    },
+    c.requires.1.4,
+  ),
+)
 
 pub put_element-put-closing-requires : goal.put_element-put-closing-requires
 put_element-put-closing-requires t c =
@@ -125,29 +124,28 @@ put_row-returns-then-sort-eq2 t c =
     c.short_value.ensures c.put_attribute-written.ensures
 
 pub put_row-put_element-requires : goal.put_row-put_element-requires
-put_row-put_element-requires t c =
-    (
-      omega (arith, c.requires.1.0.room, c.requires.1.0.few, c.requires.1.1, c.requires.1.2),
-      (
-        record {
-          few = omega (arith, c.requires.1.0.room, c.requires.1.0.few, c.requires.1.1, c.requires.1.2);
-          deep = omega (arith, c.requires.1.0.room, c.requires.1.0.few, c.requires.1.1, c.requires.1.2);
-          room = omega (
-            arith,
-            c.requires.1.0.room,
-            c.requires.1.0.few,
-            c.requires.1.1,
-            c.requires.1.2,
-            c.put_end-ended.ensures.next,
-            end_short c.args.opened,
-          );
-        },
+put_row-put_element-requires t c = (
+  omega (arith, c.requires.1.0.room, c.requires.1.0.few, c.requires.1.1, c.requires.1.2),
+  (
+    record {
+      few = omega (arith, c.requires.1.0.room, c.requires.1.0.few, c.requires.1.1, c.requires.1.2);
+      deep = omega (arith, c.requires.1.0.room, c.requires.1.0.few, c.requires.1.1, c.requires.1.2);
+      room = omega (
+        arith,
+        c.requires.1.0.room,
+        c.requires.1.0.few,
         c.requires.1.1,
         c.requires.1.2,
-        c.name_of-name.ensures.short,
-        c.requires.1.3,
-      ),
-    )
+        c.put_end-ended.ensures.next,
+        end_short c.args.opened,
+      );
+    },
+    c.requires.1.1,
+    c.requires.1.2,
+    c.name_of-name.ensures.short,
+    c.requires.1.3,
+  ),
+)
 
 pub put_row-returns-then-sort-eq1 : goal.put_row-returns-then-sort-eq1
 put_row-returns-then-sort-eq1 t c =
@@ -198,20 +196,19 @@ put_rows-returns-then-d-depth t c =
     c.put_end-end.ensures
 
 pub put_rows-put_row-row-requires : goal.put_rows-put_row-row-requires
-put_rows-put_row-row-requires t c =
-    (
-      omega (arith, c.loop-i.invariant.onward),
-      (
-        record {
-          few = omega (arith, c.requires.1.0.room, c.requires.1.0.few, c.requires.1.0.deep);
-          deep = omega (arith, c.requires.1.0.room, c.requires.1.0.few, c.requires.1.0.deep);
-          room = omega (arith, c.requires.1.0.room, c.requires.1.0.few, c.requires.1.0.deep, c.loop-i.invariant.small);
-        },
-        omega arith,
-        omega arith,
-        c.requires.1.1,
-      ),
-    )
+put_rows-put_row-row-requires t c = (
+  omega (arith, c.loop-i.invariant.onward),
+  (
+    record {
+      few = omega (arith, c.requires.1.0.room, c.requires.1.0.few, c.requires.1.0.deep);
+      deep = omega (arith, c.requires.1.0.room, c.requires.1.0.few, c.requires.1.0.deep);
+      room = omega (arith, c.requires.1.0.room, c.requires.1.0.few, c.requires.1.0.deep, c.loop-i.invariant.small);
+    },
+    omega arith,
+    omega arith,
+    c.requires.1.1,
+  ),
+)
 
 pub put_rows-loop-i-smaller-then-d-depth-2 : goal.put_rows-loop-i-smaller-then-d-depth-2
 put_rows-loop-i-smaller-then-d-depth-2 t c =

@@ -26,16 +26,15 @@ pub loop-i-init : goal.loop-i-init
 loop-i-init c = walk_start _ _ _ _ true _
 
 pub put_document-line-requires : goal.put_document-line-requires
-put_document-line-requires c =
-    (
-      record {
-        few = omega (arith, c.requires.0.room, c.requires.0.few);
-        deep = omega arith;
-        room = omega (arith, c.requires.0.room, c.requires.0.few, c.loop-i.invariant.small);
-      },
-      omega arith,
-      c.requires.1,
-    )
+put_document-line-requires c = (
+  record {
+    few = omega (arith, c.requires.0.room, c.requires.0.few);
+    deep = omega arith;
+    room = omega (arith, c.requires.0.room, c.requires.0.few, c.loop-i.invariant.small);
+  },
+  omega arith,
+  c.requires.1,
+)
 
 pub loop-i-smaller-then-row_depth-eq0 : goal.loop-i-smaller-then-row_depth-eq0
 loop-i-smaller-then-row_depth-eq0 c =

@@ -32,8 +32,7 @@ put_made-next-requires c =
     let exact = c.if-not-token.false in
     let told = c.token_at-token.ensures.told exact in
     let is-exact = sym c.token_at-token.ensures.is ∙ exact in
-    let fits = token_fits (declared_in a.form.now) a.w (stack_of a.progress.depth a.opened.now) a.progress.tag a.text.now is-exact in
-    (
+    let fits = token_fits (declared_in a.form.now) a.w (stack_of a.progress.depth a.opened.now) a.progress.tag a.text.now is-exact in (
       p.0,
       p.7,
       omega (arith, p.3),

@@ -223,9 +223,9 @@ put_member-returns-after-k t c =
     same_written (version_of_filling a.sizes.now) (width_in a.sizes.now) (defs_in a.form.now) (parts_in a.form.now) (attrs_in a.form.now)
     (count_in a.sizes.now) a.text.now.now a.h a.depth _ _
     (elim c.match-k.branch [
-      in-Sequence w ↦ member_group a.d a.s.now _ c.read_particle-p.ensures _ c.skips.ensures c.if-skips.false _ _
-    c.in-Group.is _ refl false (filled_list _ _ w.in-Sequence.is) refl
+      | in-Sequence w ↦ member_group a.d a.s.now _ c.read_particle-p.ensures _ c.skips.ensures c.if-skips.false _ _
+          c.in-Group.is _ refl false (filled_list _ _ w.in-Sequence.is) refl
       | in-Choice w ↦ member_group a.d a.s.now _ c.read_particle-p.ensures _ c.skips.ensures c.if-skips.false _ _
-    c.in-Group.is _ refl _ (filled_choice _ _ w.in-Choice.is w.accepts_nothing.ensures) w.if-accepts_nothing.false
+          c.in-Group.is _ refl _ (filled_choice _ _ w.in-Choice.is w.accepts_nothing.ensures) w.if-accepts_nothing.false
     ])
     c.put_group.ensures

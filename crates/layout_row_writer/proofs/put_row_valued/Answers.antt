@@ -19,17 +19,16 @@ put-b-requires c =
     omega (arith, after_index c.requires.1 c.args.index c.put_row_index-a.ensures, part_length c.requires.1 4 4 (omega arith))
 
 pub put_row_end-requires : goal.put_row_end-requires
-put_row_end-requires c =
-    (
-      c.requires.0,
-      omega (
-        arith,
-        c.put-b.ensures.next,
-        after_index c.requires.1 c.args.index c.put_row_index-a.ensures,
-        part_length c.requires.1 4 4 (omega arith),
-      ),
-      omega arith,
-    )
+put_row_end-requires c = (
+  c.requires.0,
+  omega (
+    arith,
+    c.put-b.ensures.next,
+    after_index c.requires.1 c.args.index c.put_row_index-a.ensures,
+    part_length c.requires.1 4 4 (omega arith),
+  ),
+  omega arith,
+)
 
 pub returns : goal.returns
 returns c =

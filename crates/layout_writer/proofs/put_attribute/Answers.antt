@@ -12,18 +12,17 @@ put_u8-c-requires c =
     omega (arith, c.put_u8-a.ensures.next, c.put_value-b.ensures.next, length_field 16 c.args.name.now)
 
 pub put_value-requires : goal.put_value-requires
-put_value-requires c =
-    (
-      c.requires.0,
-      c.requires.2,
-      omega (
-        arith,
-        c.put_u8-a.ensures.next,
-        c.put_value-b.ensures.next,
-        c.put_u8-c.ensures.next,
-        length_field 16 c.args.name.now,
-      ),
-    )
+put_value-requires c = (
+  c.requires.0,
+  c.requires.2,
+  omega (
+    arith,
+    c.put_u8-a.ensures.next,
+    c.put_value-b.ensures.next,
+    c.put_u8-c.ensures.next,
+    length_field 16 c.args.name.now,
+  ),
+)
 
 pub returns : goal.returns
 returns c =

@@ -9,21 +9,20 @@ use borrow.Author.Rules.{rules}
 use Rattle.layout_writer.proofs.put_header.Goals as goal
 
 pub put_contents-requires : goal.put_contents-requires
-put_contents-requires c =
-    (
-      c.requires.0,
-      c.requires.2,
-      c.requires.3,
-      c.requires.4,
-      c.requires.5,
-      omega (
-        arith,
-        c.put_u32-serial.ensures.next,
-        c.put-version.ensures.next,
-        ap length c.window.ensures,
-        length-take 4 c.args.store.now,
-      ),
-    )
+put_contents-requires c = (
+  c.requires.0,
+  c.requires.2,
+  c.requires.3,
+  c.requires.4,
+  c.requires.5,
+  omega (
+    arith,
+    c.put_u32-serial.ensures.next,
+    c.put-version.ensures.next,
+    ap length c.window.ensures,
+    length-take 4 c.args.store.now,
+  ),
+)
 
 pub returns : goal.returns
 returns c =

@@ -2,7 +2,6 @@
 -- sum that is ensured; bytes are below 256, so each product and each sum is below 4294967296, and arithmetic finds
 -- every need.
 use native.Mathlib.Omega.{arith}
-use borrow.Author.Rules.{rules}
 use Rattle.little_endian.proofs.four.Goals as goal
 
 pub returns : goal.returns

@@ -37,12 +37,12 @@ loop-j-preserved c =
     let j = c.loop-j.j in
     let e = particles_from_lem j a.m a.parts.now (omega arith) in
     elim c.if-depth-k-2.branch [
-      then-depth-k-2 w ↦
-    let h : (particle_record_at j a.parts.now).depth ≡ a.k = omega arith in
-    (omega arith, omega (arith, members_same a.k e h))
+      | then-depth-k-2 w ↦
+          let h : (particle_record_at j a.parts.now).depth ≡ a.k = omega arith in
+          (omega arith, omega (arith, members_same a.k e h))
       | else-depth-k-2 w ↦
-    let h : a.k < (particle_record_at j a.parts.now).depth = omega arith in
-    (omega arith, omega (arith, members_deeper a.k e h))
+          let h : a.k < (particle_record_at j a.parts.now).depth = omega arith in
+          (omega arith, omega (arith, members_deeper a.k e h))
     ]
 
 pub returns : goal.returns

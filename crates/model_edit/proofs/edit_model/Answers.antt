@@ -43,17 +43,16 @@ slice_bounds-edit_form-end c =
     (form_short c.requires.0 (sym c.keeps_within.ensures ∙ c.if-not-keeps_within.false))).count
 
 pub edit_form-requires : goal.edit_form-requires
-edit_form-requires c =
-    (
-      c.requires.0.good,
-      c.requires.1,
-      c.requires.2,
-      forms_of
-          (form_of c.requires.0 (sym c.keeps_within.ensures ∙ c.if-not-keeps_within.false) c.definition_count-d.ensures
-          (as_many c.requires.0 c.all_after-p.ensures) c.attribute_count-a.ensures
-          (stored c.put_edited-end.ensures (length-replicate {A = ℕ} most_form 0)
-          (form_short c.requires.0 (sym c.keeps_within.ensures ∙ c.if-not-keeps_within.false))).is),
-    )
+edit_form-requires c = (
+  c.requires.0.good,
+  c.requires.1,
+  c.requires.2,
+  forms_of
+      (form_of c.requires.0 (sym c.keeps_within.ensures ∙ c.if-not-keeps_within.false) c.definition_count-d.ensures
+      (as_many c.requires.0 c.all_after-p.ensures) c.attribute_count-a.ensures
+      (stored c.put_edited-end.ensures (length-replicate {A = ℕ} most_form 0)
+      (form_short c.requires.0 (sym c.keeps_within.ensures ∙ c.if-not-keeps_within.false))).is),
+)
 
 pub returns : goal.returns
 returns c =

@@ -19,12 +19,11 @@ put_counted-next-requires c =
     (omega (arith, owner_low c.requires.0), omega (arith, table_short c.requires.0 c.definitions_of-table.ensures))
 
 pub put_own-end-requires : goal.put_own-end-requires
-put_own-end-requires c =
-    (
-      c.requires.0,
-      c.requires.1,
-      omega (arith, c.put_counted-next.ensures.next, counted_short c.requires.0 c.own_after-count.ensures c.definitions_of-table.ensures),
-    )
+put_own-end-requires c = (
+  c.requires.0,
+  c.requires.1,
+  omega (arith, c.put_counted-next.ensures.next, counted_short c.requires.0 c.own_after-count.ensures c.definitions_of-table.ensures),
+)
 
 pub put-requires : goal.put-requires
 put-requires c =

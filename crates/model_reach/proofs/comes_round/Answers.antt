@@ -8,11 +8,10 @@ use borrow.Author.Rules.{rules}
 use Rattle.model_reach.proofs.comes_round.Goals as goal
 
 pub heights_avoiding-heights-requires : goal.heights_avoiding-heights-requires
-heights_avoiding-heights-requires c =
-    (
-      omega (arith, c.definition_count-n.ensures.value, (reads c.args.store.now c.requires.0).whole.few_definitions),
-      omega (arith, c.definition_count-n.ensures.value, c.requires.1),
-    )
+heights_avoiding-heights-requires c = (
+  omega (arith, c.definition_count-n.ensures.value, (reads c.args.store.now c.requires.0).whole.few_definitions),
+  omega (arith, c.definition_count-n.ensures.value, c.requires.1),
+)
 
 pub returns : goal.returns
 returns c =

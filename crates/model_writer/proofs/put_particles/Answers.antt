@@ -14,17 +14,16 @@ use borrow.Author.Rules.{rules}
 use Rattle.model_writer.proofs.put_particles.Goals as goal
 
 pub put_part-end-requires : goal.put_part-end-requires
-put_part-end-requires c =
-    (
-      body_part c.requires.0 c.window-own.ensures,
-      omega (
-        arith,
-        c.requires.1,
-        c.put-next.ensures.next,
-        length_cut c.args.parts.now _ 0 (particle_size * c.args.first) c.window.ensures,
-        length_cut c.args.parts.now _ (particle_size * c.args.first) (particle_size * c.args.k) c.window-own.ensures,
-      ),
-    )
+put_part-end-requires c = (
+  body_part c.requires.0 c.window-own.ensures,
+  omega (
+    arith,
+    c.requires.1,
+    c.put-next.ensures.next,
+    length_cut c.args.parts.now _ 0 (particle_size * c.args.first) c.window.ensures,
+    length_cut c.args.parts.now _ (particle_size * c.args.first) (particle_size * c.args.k) c.window-own.ensures,
+  ),
+)
 
 pub put-requires : goal.put-requires
 put-requires c =

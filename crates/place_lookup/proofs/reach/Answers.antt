@@ -39,7 +39,7 @@ pub loop-t-preserved : goal.loop-t-preserved
 loop-t-preserved c =
     let l = c.loop-t in
     elim c.if-depth-d-2.branch [
-      then-depth-d-2 w ↦ rw w.m-is (left_pass _ _ _ l.t.now _ c.particle_depth-depth.result (omega arith) c.particle_depth-depth.ensures _ w.if-depth-d-2.true w.if-m-eq0.false l.invariant)
+      | then-depth-d-2 w ↦ rw w.m-is (left_pass _ _ _ l.t.now _ c.particle_depth-depth.result (omega arith) c.particle_depth-depth.ensures _ w.if-depth-d-2.true w.if-m-eq0.false l.invariant)
       | else-depth-d-2 w ↦ rw w.m-is (left_deeper _ _ _ l.t.now _ c.particle_depth-depth.result (omega arith) c.particle_depth-depth.ensures _ (omega (arith, w.if-depth-d-2.false)) l.invariant)
     ]
 

@@ -14,37 +14,36 @@ pub loop-o-init : goal.loop-o-init
 loop-o-init c = declaring_start _ _ _ _ c.definition_count-count.ensures.value
 
 pub put_declarations-at-requires : goal.put_declarations-at-requires
-put_declarations-at-requires c =
-    (
-      c.requires.0,
-      omega (
-        arith,
-        c.requires.0.definitions,
-        c.requires.1,
-        c.loop-o.invariant.counts,
-        c.loop-o.invariant.upto,
-        c.loop-o.invariant.small,
-        c.loop-o.invariant.few,
-      ),
-      omega (
-        arith,
-        c.requires.0.definitions,
-        c.requires.1,
-        c.loop-o.invariant.counts,
-        c.loop-o.invariant.upto,
-        c.loop-o.invariant.small,
-        c.loop-o.invariant.few,
-      ),
-      omega (
-        arith,
-        c.requires.0.definitions,
-        c.requires.1,
-        c.loop-o.invariant.counts,
-        c.loop-o.invariant.upto,
-        c.loop-o.invariant.small,
-        c.loop-o.invariant.few,
-      ),
-    )
+put_declarations-at-requires c = (
+  c.requires.0,
+  omega (
+    arith,
+    c.requires.0.definitions,
+    c.requires.1,
+    c.loop-o.invariant.counts,
+    c.loop-o.invariant.upto,
+    c.loop-o.invariant.small,
+    c.loop-o.invariant.few,
+  ),
+  omega (
+    arith,
+    c.requires.0.definitions,
+    c.requires.1,
+    c.loop-o.invariant.counts,
+    c.loop-o.invariant.upto,
+    c.loop-o.invariant.small,
+    c.loop-o.invariant.few,
+  ),
+  omega (
+    arith,
+    c.requires.0.definitions,
+    c.requires.1,
+    c.loop-o.invariant.counts,
+    c.loop-o.invariant.upto,
+    c.loop-o.invariant.small,
+    c.loop-o.invariant.few,
+  ),
+)
 
 pub definition-requires : goal.definition-requires
 definition-requires c =

@@ -10,8 +10,7 @@ overflow_add-result c =
     omega (arith, span_low c.requires c.particles_from.ensures c.span.ensures)
 
 pub returns : goal.returns
-returns c =
-    (
-      span_is c.requires c.particles_from.ensures c.span.ensures,
-      omega (arith, span_low c.requires c.particles_from.ensures c.span.ensures),
-    )
+returns c = (
+  span_is c.requires c.particles_from.ensures c.span.ensures,
+  omega (arith, span_low c.requires c.particles_from.ensures c.span.ensures),
+)

@@ -37,13 +37,12 @@ put_form-at-requires c =
     )
 
 pub put_documents-requires : goal.put_documents-requires
-put_documents-requires c =
-    (
-      c.width_in-w.ensures.small,
-      form_room c.args.form.now c.requires.0,
-      rows_at c.width_in-w.ensures c.requires.1,
-      laid_short c.args.form.now _ _ _ _ _ _ _ c.row_start-end.ensures c.put_form-at.ensures,
-    )
+put_documents-requires c = (
+  c.width_in-w.ensures.small,
+  form_room c.args.form.now c.requires.0,
+  rows_at c.width_in-w.ensures c.requires.1,
+  laid_short c.args.form.now _ _ _ _ _ _ _ c.row_start-end.ensures c.put_form-at.ensures,
+)
 
 pub returns : goal.returns
 returns c =

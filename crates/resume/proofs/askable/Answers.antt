@@ -15,8 +15,7 @@ pub returns-then-attribute_count-gt-MAX_ATTRIBUTES : goal.returns-then-attribute
 returns-then-attribute_count-gt-MAX_ATTRIBUTES c = λ e. absurd (false≢true e)
 
 pub returns : goal.returns
-returns c e =
-    (
-      few_in c.definition_count.ensures (omega arith) c.attribute_count.ensures (omega arith),
-      rows_there c.width_in.ensures c.row_size-size.ensures c.times.ensures e,
-    )
+returns c e = (
+  few_in c.definition_count.ensures (omega arith) c.attribute_count.ensures (omega arith),
+  rows_there c.width_in.ensures c.row_size-size.ensures c.times.ensures e,
+)

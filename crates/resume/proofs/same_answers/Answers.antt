@@ -8,5 +8,5 @@ use Rattle.resume.proofs.same_answers.Goals as goal
 use Rattle.resume.proofs.same_answers.Goals.{then-answer_by_parts-whole, else-answer_by_parts-whole}
 
 pub loop-m-preserved : goal.loop-m-preserved
-loop-m-preserved c = 
+loop-m-preserved c =
     elim c.if-answer_by_parts-whole.branch [ then-answer_by_parts-whole w ↦ omega arith | else-answer_by_parts-whole w ↦ omega arith ]

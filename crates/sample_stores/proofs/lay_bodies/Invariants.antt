@@ -1,6 +1,5 @@
 -- `sample_stores::lay_bodies` meets its contract: the numbers go up to 64.
 use Prim.Native.Nat.{◌≤◌, ◌-◌}
-use borrow.Author.Rules.{rules}
 use Rattle.sample_stores.proofs.lay_bodies.Given as goal
 
 -- definitions, particles and rows below i are laid

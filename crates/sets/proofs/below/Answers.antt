@@ -4,7 +4,6 @@ use mathlib.Core.Path.{ap, ◌∙◌}
 use Prim.Native.Nat.{ℕ, ◌%◌}
 use Rattle.sets.proofs.Laws.{bit_is, bit_pos, below_all}
 use native.Mathlib.Omega.{arith}
-use borrow.Author.Rules.{rules}
 use Rattle.sets.proofs.below.Goals as goal
 
 pub returns-then-to-ge64 : goal.returns-then-to-ge64

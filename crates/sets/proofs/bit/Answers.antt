@@ -1,7 +1,6 @@
 -- `sets::bit` meets its contract: below 64 the shift gives `bit` (`bit_below` of Laws), and from 64 on `bit` is 0
 -- (`bit_past`).
 use Rattle.sets.proofs.Laws.{bit_below, bit_past}
-use borrow.Author.Rules.{rules}
 use Rattle.sets.proofs.bit.Goals as goal
 
 pub returns-then-i-lt64 : goal.returns-then-i-lt64

@@ -3,7 +3,6 @@
 use mathlib.Core.Path.{refl, sym}
 use Rattle.sets.specs.Sets.{has}
 use Rattle.sets.proofs.Laws.{has_past}
-use borrow.Author.Rules.{rules}
 use Rattle.sets.proofs.contains.Goals as goal
 
 pub returns-then-i-lt64 : goal.returns-then-i-lt64

@@ -1,7 +1,6 @@
 -- `sets::none_between` meets its contract: for `from` from 64 on no number is in the range (`none-past` of Laws); else
 -- what `below` leaves, shifted by `from`, is 0 if and only if s has none of the range (`none_between`).
 use Rattle.sets.proofs.Laws.{none_between, none_past}
-use borrow.Author.Rules.{rules}
 use Rattle.sets.proofs.none_between.Goals as goal
 
 pub returns-then-from-ge64 : goal.returns-then-from-ge64

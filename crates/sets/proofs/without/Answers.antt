@@ -1,6 +1,5 @@
 -- `sets::without` meets its contract: it is the contract of `difference`, with `bit i` put in for what the call of
 -- `bit` gave.
-use borrow.Author.Rules.{rules}
 use Rattle.sets.proofs.without.Goals as goal
 
 pub returns : goal.returns

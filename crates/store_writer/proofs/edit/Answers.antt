@@ -22,15 +22,14 @@ slice_bounds-form-end c =
     omega (arith, c.header_size-start.ensures, start_within (holds _ c.requires.0) c.row_start-end.ensures)
 
 pub edit_form-requires : goal.edit_form-requires
-edit_form-requires c =
-    (
-      c.requires.0,
-      c.requires.1,
-      c.requires.2,
-      forms_of
-          (own_form (holds _ c.requires.0) c.header_size-start.ensures c.row_start-end.ensures
-          c.definition_count-d.ensures c.particle_count-p.ensures c.attribute_count-a.ensures),
-    )
+edit_form-requires c = (
+  c.requires.0,
+  c.requires.1,
+  c.requires.2,
+  forms_of
+      (own_form (holds _ c.requires.0) c.header_size-start.ensures c.row_start-end.ensures
+      c.definition_count-d.ensures c.particle_count-p.ensures c.attribute_count-a.ensures),
+)
 
 pub returns : goal.returns
 returns c =

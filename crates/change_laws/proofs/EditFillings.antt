@@ -13,7 +13,7 @@ use Rattle.rules.specs.Model.{Members, done, el, group, names, skips, nothing, u
 use Rattle.rules.specs.Place.{Context, before_place, after_place, Found}
 use Rattle.rules.specs.Edit.{Edit, insert, remove, quantify, convert, flatten, place_of}
 use Rattle.rules.specs.Store.{Content, complex, Definition, Form, RowSort, element, attribute, text, Row, Forest, bare, tree, model_of, members}
-use Rattle.rules.specs.WellFormed.{lookup, known, members_of, Reaches, directly, through, GoodDefinition, well_formed}
+use Rattle.rules.specs.WellFormed.{lookup, members_of, Reaches, directly, through, GoodDefinition, well_formed}
 use Rattle.rules.specs.Conforming.{EveryRow, is_element, every_row, fits_definition, fits_row}
 use Rattle.rules.specs.Filling.{fill_within, fill_definition}
 use Rattle.rules.specs.Lines.{Line}

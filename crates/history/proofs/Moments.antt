@@ -14,7 +14,7 @@ use Rattle.rules.specs.Decode.{version_in, next_serial}
 use Rattle.rules.specs.WellFormed.{well_formed}
 use Rattle.rules.specs.Conforming.{conforming}
 use Rattle.rules.specs.Passing.{good, good_serials, read_store}
-use Rattle.rules.specs.Lines.{Line, lines}
+use Rattle.rules.specs.Lines.{Line}
 use Rattle.rules.specs.Change.{Call, after}
 use Rattle.rules.specs.Refusal.{refusal}
 use Rattle.rules.specs.Outcome.{Outcome, refused, wrote, unless_refused, on_store, outcome}

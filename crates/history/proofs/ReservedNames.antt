@@ -9,7 +9,7 @@ use Rattle.rules.specs.Outcome.{outcome}
 use Rattle.rules.specs.Run.{Asked, is_accepted, Moment, start, step, run}
 use Rattle.change_laws.proofs.UnreservedAfter.{none_reserved_after}
 use Rattle.history.specs.History.{form_in, GoodMoment}
-use Rattle.history.proofs.Moments.{Holds, good_holds, holds_good, step_on, refused_same, accepted_unmet, accepted_by_rules, start_good}
+use Rattle.history.proofs.Moments.{Holds, good_holds, step_on, refused_same, accepted_unmet, accepted_by_rules, start_good}
 use Rattle.history.proofs.Accepted.{good_after, demand_3_from}
 
 -- by the book's form, which is the store's

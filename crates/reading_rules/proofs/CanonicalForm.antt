@@ -192,4 +192,4 @@ row_conforms version form r below = by r.sort
 
 pub conforming_form : (version : ℕ) (form : Form) (docs : Forest Row) → Conforming version form docs → Conforming version (map canonical_definition form) docs
 conforming_form version form docs x =
-    record { roots = x.roots; rows = every_two _ _ _ (λ r below y z. row_conforms version form r below y) docs x.rows x.rows }
+    record { roots = x.roots; rows = every_two (RowConforms version form) (RowConforms version form) (RowConforms version (map canonical_definition form)) (λ r below y z. row_conforms version form r below y) docs x.rows x.rows }

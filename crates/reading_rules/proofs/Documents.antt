@@ -133,13 +133,13 @@ rows_of_text_lem zero r (start_ended {f = f} s) l = absurd (let z : ⊥ = omega 
 rows_of_text_lem zero r a_text l = absurd (let z : ⊥ = omega arith in z)
 rows_of_text_lem zero r no_more l = absurd (let z : ⊥ = omega arith in z)
 rows_of_text_lem zero r (an_element h b t) l = absurd (let z : ⊥ = omega arith in z)
-rows_of_text_lem {form} (suc n) r (an_attribute {pc = pc} {k = k} {n = x} {v = v} {t = t} h s) l = next_attribute_row form n pc k x v t r h (rows_of_text_lem n r s (omega arith))
-rows_of_text_lem {form} (suc n) r (start_ended {pc = pc} {f = f} s) l = next_content form n pc f r s (rows_of_text_lem n r s (omega arith))
+rows_of_text_lem {form} (suc n) r (an_attribute {pc = pc} {k = k} {n = x} {v = v} {t = t} h s) l = next_attribute_row form n pc k x v t r h (rows_of_text_lem {opened = true} {pc = pc} {f = t} n r s (omega arith))
+rows_of_text_lem {form} (suc n) r (start_ended {pc = pc} {f = f} s) l = next_content form n pc f r s (rows_of_text_lem {opened = false} {pc = pc} {f = f} n r s (omega arith))
 rows_of_text_lem {form} (suc n) r (a_text {k = k} {v = v}) l = next_text form n k v r
 rows_of_text_lem {form} (suc n) r no_more l = unfold each_row in next_none form n r
 rows_of_text_lem {form} (suc n) r (an_element {k = k} {n = x} {b = b} {t = t} h s q) l =
     ap (λ (z : Bytes). rows_of_text form (suc n) false false z) (element_below k x b t r)
-    ∙ next_element form n k x b t r h (below_stops _ s) (rows_of_text_lem n _ s (omega arith)) (rows_of_text_lem n r q (omega arith))
+    ∙ next_element form n k x b t r h (below_stops _ s) (rows_of_text_lem {opened = true} {pc = holds_text form x} {f = b} n _ s (omega arith)) (rows_of_text_lem {opened = false} {pc = false} {f = t} n r q (omega arith))
 
 -- ---- no more steps than three a byte
 pub steps_few : {form : Form} {opened pc : Bool} {f : Forest Row} (r : Bytes) → ShownBelow form opened pc f → reading_steps f + 3 * length r ≤ 3 * length (text_below opened f r)

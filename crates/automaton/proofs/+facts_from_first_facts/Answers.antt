@@ -3,12 +3,10 @@
 -- holds at first (`joining-starts`); a deeper particle is passed (`joining-deeper`), one of depth d is joined
 -- (`joining-on`), one less deep or the end of s ends the members (`joining-stop`, `joining-few`). In a group there are
 -- fewer particles, so the cycle ends.
-use Prim.Native.Nat.{◌+◌, ◌-◌, ◌*◌}
+use Prim.Native.Nat.{◌-◌}
 use native.Mathlib.Omega.{arith}
-use borrow.Author.Rules.{rules}
 use lib.ListN.{length, drop, length-take, length-drop}
-use Rattle.model.proofs.FactsLaws.{first_element, first_group, Joining, joining_starts, joining_few, joining_stop, joining_deeper, joining_on}
-use Prim.Native.Nat.{ℕ, ◌<◌}
+use Rattle.model.proofs.FactsLaws.{first_element, first_group, joining_starts, joining_few, joining_stop, joining_deeper, joining_on}
 use Rattle.rules.specs.Layout.{particle_size}
 use Rattle.automaton.proofs.+facts_from_first_facts.Goals as goal
 

@@ -1,10 +1,6 @@
-use Prim.Native.Nat.{◌+◌, ◌-◌, ◌*◌}
-use native.Mathlib.Omega.{arith}
-use borrow.Author.Rules.{rules}
-use lib.ListN.{length, drop, length-take, length-drop}
-use Rattle.model.proofs.FactsLaws.{first_element, first_group, Joining, joining_starts, joining_few, joining_stop, joining_deeper, joining_on}
-use Prim.Native.Nat.{ℕ, ◌<◌}
-use Rattle.rules.specs.Layout.{particle_size}
+use Prim.Native.Nat.{◌+◌, ◌*◌}
+use lib.ListN.{length}
+use Rattle.model.proofs.FactsLaws.{Joining}
 use Rattle.automaton.proofs.+facts_from_first_facts.Given as goal
 
 abbrev pub decreases-facts_from : goal.decreases-facts_from

@@ -1,7 +1,6 @@
 -- `automaton::finishes` meets its contract: before the first child the return is whether the model accepts nothing
 -- (`finish-none` of FactsLaws in `model`), and after a child whether that child may be the last (`finish-last`).
 use Rattle.model.proofs.FactsLaws.{finish_none, finish_last}
-use borrow.Author.Rules.{rules}
 use Rattle.automaton.proofs.finishes.Goals as goal
 
 pub returns-then-last-eq0 : goal.returns-then-last-eq0

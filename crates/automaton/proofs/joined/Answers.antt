@@ -1,6 +1,5 @@
 -- `automaton::joined` meets its contract: each arm returns what `in_sequence` or `in_choice` ensures, the clause of
 -- `join` for the kind of that arm.
-use borrow.Author.Rules.{rules}
 use Rattle.automaton.proofs.joined.Goals as goal
 
 pub returns-in-Sequence : goal.returns-in-Sequence

@@ -1,6 +1,5 @@
 -- `automaton::no_members` meets its contract: in each arm the four fields are those of `empty` for the kind of that
 -- arm.
-use borrow.Author.Rules.{rules}
 use Rattle.automaton.proofs.no_members.Goals as goal
 
 pub returns-in-Sequence : goal.returns-in-Sequence

@@ -1,6 +1,5 @@
 -- `automaton::quantified` meets its contract: in each arm the return is the clause of `quantify` for the quantifier of
 -- that arm: f itself for `None`, and for `Star` and `Plus` a record whose `follow` is `again`.
-use borrow.Author.Rules.{rules}
 use Rattle.automaton.proofs.quantified.Goals as goal
 
 pub returns-in-Qmark : goal.returns-in-Qmark

@@ -1,7 +1,6 @@
 -- `automaton::steps` meets its contract: before the first child the return is whether y may be the first (`step-first`
 -- of FactsLaws in `model`), and after a child whether y may follow it (`step-follow`).
 use Rattle.model.proofs.FactsLaws.{step_first, step_follow}
-use borrow.Author.Rules.{rules}
 use Rattle.automaton.proofs.steps.Goals as goal
 
 pub returns-then-last-eq0 : goal.returns-then-last-eq0

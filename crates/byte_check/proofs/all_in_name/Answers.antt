@@ -1,14 +1,9 @@
 -- `byte_check::all_in_name` meets its contract: a byte that may not stand in a name makes the answer false (`all-off`
 -- of TestLaws), any other keeps the invariant (`all-on`), and past the last byte the answer is true (`all_end`).
-use borrow.Author.Tests.{not-true, not-false}
-use Prim.Native.Nat.{◌-◌}
-use mathlib.Core.Path.{◌≡◌, sym, ◌∙◌}
-use lib.ListN.{length, drop}
+use mathlib.Core.Path.{sym, ◌∙◌}
 use native.Mathlib.Omega.{arith}
-use Rattle.rules.specs.Bytes.{all}
 use Rattle.byte_check.proofs.TestLaws.{all_on, all_off, all_end}
 use Rattle.rules.specs.WellFormed.{in_name}
-use borrow.Author.Rules.{rules}
 use Rattle.byte_check.proofs.all_in_name.Goals as goal
 
 pub returns-then-not-in_name : goal.returns-then-not-in_name

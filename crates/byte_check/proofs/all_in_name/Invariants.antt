@@ -1,12 +1,8 @@
-use borrow.Author.Tests.{not-true, not-false}
 use Prim.Native.Nat.{◌-◌}
-use mathlib.Core.Path.{◌≡◌, sym, ◌∙◌}
+use mathlib.Core.Path.{◌≡◌}
 use lib.ListN.{length, drop}
-use native.Mathlib.Omega.{arith}
 use Rattle.rules.specs.Bytes.{all}
-use Rattle.byte_check.proofs.TestLaws.{all_on, all_off, all_end}
 use Rattle.rules.specs.WellFormed.{in_name}
-use borrow.Author.Rules.{rules}
 use Rattle.byte_check.proofs.all_in_name.Given as goal
 
 -- The loop's invariant: all bytes are those of a name if and only if those from i on are.

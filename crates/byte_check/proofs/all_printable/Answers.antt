@@ -2,13 +2,10 @@
 -- Else eight bytes that are not all printable make the answer false (`part_off` of TestLaws), any other eight keep the
 -- invariant (`part-on`), and the answer is that of the last eight, some of which may have passed before (`part_end`).
 use Prim.Native.Nat.{◌-◌}
-use mathlib.Core.Path.{◌≡◌, refl}
-use mathlib.Core.Bool.{true}
-use lib.ListN.{length, take}
+use mathlib.Core.Path.{refl}
+use lib.ListN.{length}
 use native.Mathlib.Omega.{arith}
-use borrow.Author.Tests.{not-true, not-false}
-use borrow.Author.Rules.{rules}
-use Rattle.rules.specs.Bytes.{all, between}
+use Rattle.rules.specs.Bytes.{between}
 use Rattle.byte_check.proofs.TestLaws.{part_on, part_off, part_end}
 use Rattle.byte_check.proofs.all_printable.Goals as goal
 

@@ -1,12 +1,8 @@
 use Prim.Native.Nat.{◌-◌}
-use mathlib.Core.Path.{◌≡◌, refl}
+use mathlib.Core.Path.{◌≡◌}
 use mathlib.Core.Bool.{true}
 use lib.ListN.{length, take}
-use native.Mathlib.Omega.{arith}
-use borrow.Author.Tests.{not-true, not-false}
-use borrow.Author.Rules.{rules}
 use Rattle.rules.specs.Bytes.{all, between}
-use Rattle.byte_check.proofs.TestLaws.{part_on, part_off, part_end}
 use Rattle.byte_check.proofs.all_printable.Given as goal
 
 -- the first i bytes are printable

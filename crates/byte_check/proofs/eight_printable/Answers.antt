@@ -5,7 +5,6 @@ use mathlib.Core.Bool.{◌&&◌}
 use native.Mathlib.Omega.{arith}
 use Rattle.rules.specs.Bytes.{between}
 use Rattle.byte_check.proofs.TestLaws.{eight_of}
-use borrow.Author.Rules.{rules}
 use Rattle.byte_check.proofs.eight_printable.Goals as goal
 
 pub returns : goal.returns

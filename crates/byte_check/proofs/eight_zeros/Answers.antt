@@ -4,7 +4,6 @@ use Prim.Native.Nat.{ℕ}
 use lib.Dec.{eqb}
 use native.Mathlib.Omega.{arith}
 use Rattle.byte_check.proofs.TestLaws.{eight_of}
-use borrow.Author.Rules.{rules}
 use Rattle.byte_check.proofs.eight_zeros.Goals as goal
 
 pub returns : goal.returns

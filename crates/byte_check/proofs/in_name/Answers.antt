@@ -3,7 +3,6 @@
 use mathlib.Core.Path.{ap}
 use mathlib.Core.Bool.{Bool, ◌&&◌, ◌||◌}
 use lib.Dec.{eqb, leb}
-use borrow.Author.Rules.{rules}
 use Rattle.byte_check.proofs.NameLaws.{small_in_name}
 use Rattle.byte_check.proofs.in_name.Goals as goal
 

@@ -3,7 +3,6 @@
 use mathlib.Core.Path.{sym}
 use native.Mathlib.Omega.{arith}
 use Rattle.byte_check.proofs.NameLaws.{reserved_few, reserved_by}
-use borrow.Author.Rules.{rules}
 use Rattle.byte_check.proofs.is_reserved.Goals as goal
 
 pub returns-then-s-lt3 : goal.returns-then-s-lt3

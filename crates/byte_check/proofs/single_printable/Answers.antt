@@ -1,13 +1,9 @@
 -- `byte_check::single_printable` meets its contract: a byte that is not printable makes the answer false (`all-off` of
 -- TestLaws), any other keeps the invariant (`all-on`), and past the last byte the answer is true (`all_end`).
-use borrow.Author.Tests.{not-true, not-false}
-use Prim.Native.Nat.{◌-◌}
-use mathlib.Core.Path.{◌≡◌, sym, ◌∙◌}
-use lib.ListN.{length, drop}
+use mathlib.Core.Path.{sym, ◌∙◌}
 use native.Mathlib.Omega.{arith}
-use Rattle.rules.specs.Bytes.{all, between}
+use Rattle.rules.specs.Bytes.{between}
 use Rattle.byte_check.proofs.TestLaws.{all_on, all_off, all_end}
-use borrow.Author.Rules.{rules}
 use Rattle.byte_check.proofs.single_printable.Goals as goal
 
 pub returns-then-not-printable : goal.returns-then-not-printable

@@ -1,11 +1,7 @@
-use borrow.Author.Tests.{not-true, not-false}
 use Prim.Native.Nat.{◌-◌}
-use mathlib.Core.Path.{◌≡◌, sym, ◌∙◌}
+use mathlib.Core.Path.{◌≡◌}
 use lib.ListN.{length, drop}
-use native.Mathlib.Omega.{arith}
 use Rattle.rules.specs.Bytes.{all, between}
-use Rattle.byte_check.proofs.TestLaws.{all_on, all_off, all_end}
-use borrow.Author.Rules.{rules}
 use Rattle.byte_check.proofs.single_printable.Given as goal
 
 -- The loop's invariant: all bytes are printable if and only if those from i on are.

@@ -1,14 +1,10 @@
 -- `byte_check::single_zeros` meets its contract: a byte other than 0 makes the answer false (`all-off` of TestLaws), a
 -- 0 keeps the invariant (`all-on`), and past the last byte the answer is true (`all_end`).
-use Prim.Native.Nat.{ℕ, ◌-◌}
-use mathlib.Core.Path.{◌≡◌}
+use Prim.Native.Nat.{ℕ}
 use lib.Dec.{eqb}
-use lib.ListN.{length, drop}
 use native.Mathlib.Omega.{arith}
 use borrow.Author.Tests.{eq-eqb, ne_eqb}
-use Rattle.byte_check.specs.Zeros.{zeros}
 use Rattle.byte_check.proofs.TestLaws.{all_on, all_off, all_end}
-use borrow.Author.Rules.{rules}
 use Rattle.byte_check.proofs.single_zeros.Goals as goal
 
 pub returns-then-s-i-ne0 : goal.returns-then-s-i-ne0

@@ -1,12 +1,7 @@
-use Prim.Native.Nat.{ℕ, ◌-◌}
+use Prim.Native.Nat.{◌-◌}
 use mathlib.Core.Path.{◌≡◌}
-use lib.Dec.{eqb}
 use lib.ListN.{length, drop}
-use native.Mathlib.Omega.{arith}
-use borrow.Author.Tests.{eq-eqb, ne_eqb}
 use Rattle.byte_check.specs.Zeros.{zeros}
-use Rattle.byte_check.proofs.TestLaws.{all_on, all_off, all_end}
-use borrow.Author.Rules.{rules}
 use Rattle.byte_check.proofs.single_zeros.Given as goal
 
 -- The loop's invariant: all bytes are zeros if and only if those from i on are.

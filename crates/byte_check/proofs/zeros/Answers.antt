@@ -2,14 +2,10 @@
 -- bytes that are not all 0 make the answer false (`part_off` of TestLaws), any other eight keep the invariant
 -- (`part-on`), and the answer is that of the last eight, some of which may have passed before (`part_end`).
 use Prim.Native.Nat.{ℕ, ◌-◌}
-use mathlib.Core.Path.{◌≡◌, refl}
-use mathlib.Core.Bool.{true}
-use lib.ListN.{length, take}
+use mathlib.Core.Path.{refl}
+use lib.ListN.{length}
 use native.Mathlib.Omega.{arith}
-use borrow.Author.Tests.{not-true, not-false}
-use borrow.Author.Rules.{rules}
 use lib.Dec.{eqb}
-use Rattle.byte_check.specs.Zeros.{zeros}
 use Rattle.byte_check.proofs.TestLaws.{part_on, part_off, part_end}
 use Rattle.byte_check.proofs.zeros.Goals as goal
 

@@ -1,13 +1,8 @@
-use Prim.Native.Nat.{ℕ, ◌-◌}
-use mathlib.Core.Path.{◌≡◌, refl}
+use Prim.Native.Nat.{◌-◌}
+use mathlib.Core.Path.{◌≡◌}
 use mathlib.Core.Bool.{true}
 use lib.ListN.{length, take}
-use native.Mathlib.Omega.{arith}
-use borrow.Author.Tests.{not-true, not-false}
-use borrow.Author.Rules.{rules}
-use lib.Dec.{eqb}
 use Rattle.byte_check.specs.Zeros.{zeros}
-use Rattle.byte_check.proofs.TestLaws.{part_on, part_off, part_end}
 use Rattle.byte_check.proofs.zeros.Given as goal
 
 -- the first i bytes are zeros

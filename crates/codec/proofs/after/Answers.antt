@@ -3,7 +3,6 @@
 use mathlib.Core.Path.{sym}
 use lib.ListN.{drop_of_length-le}
 use Rattle.codec.proofs.Writers.{tail_seen}
-use borrow.Author.Rules.{rules}
 use Rattle.codec.proofs.after.Goals as goal
 
 pub returns-then-n-s : goal.returns-then-n-s

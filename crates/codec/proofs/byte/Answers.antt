@@ -2,7 +2,6 @@
 -- is its default, 0 (`ListN.get_or-eq_default` of ListN).
 use mathlib.Core.Path.{sym}
 use lib.ListN.{get_or-eq_default}
-use borrow.Author.Rules.{rules}
 use Rattle.codec.proofs.byte.Goals as goal
 
 pub returns-else-i-s : goal.returns-else-i-s

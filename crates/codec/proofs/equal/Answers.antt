@@ -1,12 +1,8 @@
 -- `codec::equal` meets its contract: strings of two lengths differ (`same-lengths` of Strings). Two bytes that differ
 -- settle it (`same-off`), equal ones keep the invariant (`same-on`), and at the end nothing is left to compare
 -- (`same_end`).
-use mathlib.Core.Path.{◌≡◌, sym, ◌∙◌}
-use Prim.Native.Nat.{◌-◌}
+use mathlib.Core.Path.{sym, ◌∙◌}
 use native.Mathlib.Omega.{arith}
-use borrow.Author.Rules.{rules}
-use lib.ListN.{length, drop}
-use Rattle.rules.specs.Bytes.{same}
 use Rattle.codec.proofs.Strings.{same_lengths, same_on, same_off, same_end}
 use Rattle.codec.proofs.equal.Goals as goal
 

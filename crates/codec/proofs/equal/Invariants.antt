@@ -1,10 +1,7 @@
-use mathlib.Core.Path.{◌≡◌, sym, ◌∙◌}
+use mathlib.Core.Path.{◌≡◌}
 use Prim.Native.Nat.{◌-◌}
-use native.Mathlib.Omega.{arith}
-use borrow.Author.Rules.{rules}
 use lib.ListN.{length, drop}
 use Rattle.rules.specs.Bytes.{same}
-use Rattle.codec.proofs.Strings.{same_lengths, same_on, same_off, same_end}
 use Rattle.codec.proofs.equal.Given as goal
 
 -- The loop's invariant: two strings of one length are the same if and only if what follows their first i bytes is.

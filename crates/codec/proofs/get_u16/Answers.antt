@@ -4,7 +4,6 @@ use native.Mathlib.Omega.{arith}
 use Prim.Native.Nat.{◌+◌, ◌≤◌}
 use lib.ListN.{length, get_or-eq_default}
 use Rattle.codec.proofs.Numbers.{number_two, number_past}
-use borrow.Author.Rules.{rules}
 use Rattle.codec.proofs.get_u16.Goals as goal
 
 pub returns-then-s-at : goal.returns-then-s-at

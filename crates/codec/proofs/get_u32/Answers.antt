@@ -2,7 +2,6 @@
 use mathlib.Core.Path.{sym}
 use native.Mathlib.Omega.{arith}
 use Rattle.codec.proofs.Numbers.{number_four, number_past}
-use borrow.Author.Rules.{rules}
 use Rattle.codec.proofs.get_u32.Goals as goal
 
 pub returns-then-s-at : goal.returns-then-s-at

@@ -1,13 +1,10 @@
 -- `codec::lay` meets its contract: each step stores the byte at i and so keeps the invariant (`lay_step` of Writers).
 -- At the end no byte is left to lay (`drop_of_length-le` of ListN), so that the invariant is the contract.
 use Rattle.codec.proofs.Writers.{lay_step}
-use borrow.Author.Rules.{rules}
 use mathlib.Core.Path.{◌≡◌, ◌∙◌}
 use mathlib.Core.List.{[]}
-use Prim.Native.Nat.{◌≤◌, ◌-◌}
 use native.Mathlib.Omega.{arith}
-use lib.ListN.{length, drop, drop_of_length-le}
-use lib.Seq.{sets}
+use lib.ListN.{drop, drop_of_length-le}
 use Rattle.codec.proofs.lay.Goals as goal
 
 pub overflow_add-i : goal.overflow_add-i

@@ -5,7 +5,6 @@ use Prim.Native.Nat.{ℕ, ◌+◌, ◌-◌}
 use native.Mathlib.Omega.{arith}
 use lib.ListN.{take, drop}
 use Rattle.codec.proofs.Strings.{part_there, part_short}
-use borrow.Author.Rules.{rules}
 use Rattle.codec.proofs.part.Goals as goal
 
 pub returns-then-s-at : goal.returns-then-s-at

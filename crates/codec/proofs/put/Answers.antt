@@ -4,7 +4,6 @@
 use mathlib.Core.Path.{refl, sym}
 use Rattle.codec.proofs.Writers.{tail_copied, tail_sets, sets_past}
 use native.Mathlib.Omega.{arith}
-use borrow.Author.Rules.{rules}
 use Rattle.codec.proofs.put.Goals as goal
 
 pub returns-then-next-out : goal.returns-then-next-out

@@ -1,6 +1,5 @@
 -- `codec::put_u16` meets its contract.
 use Rattle.codec.proofs.Writers.{laid_then}
-use borrow.Author.Rules.{rules}
 use Rattle.codec.proofs.put_u16.Goals as goal
 
 pub returns : goal.returns

@@ -1,7 +1,6 @@
 -- `codec::put_u32` meets its contract.
 use Rattle.codec.proofs.Numbers.{le_four}
 use Rattle.codec.proofs.Writers.{laid_as, laid_then}
-use borrow.Author.Rules.{rules}
 use Rattle.codec.proofs.put_u32.Goals as goal
 
 pub returns : goal.returns

@@ -2,7 +2,6 @@
 -- changes nothing (`set_out` of Seq).
 use mathlib.Core.Path.{sym}
 use lib.Seq.{set_out}
-use borrow.Author.Rules.{rules}
 use Rattle.codec.proofs.store.Goals as goal
 
 pub returns-else-at-out : goal.returns-else-at-out

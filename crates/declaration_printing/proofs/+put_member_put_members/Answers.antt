@@ -67,14 +67,14 @@ put_member-put_mark-requires-2 t c =
       c.put_u8-closed.ensures.next,
       c.put_u8-opened.ensures.next,
       c.put_separator-signed.ensures.next,
-      c.requires.1.0.room,
-      c.requires.1.1,
+      c.requires.0.room,
+      c.requires.1,
     )
 
 pub put_member-returns : goal.put_member-returns
 put_member-returns t c =
     let a = c.args in
-    group_stepped a.store.now a.end a.i a.depth a.kind a.first _ c.particle-bytes.ensures c.requires.1.1
+    group_stepped a.store.now a.end a.i a.depth a.kind a.first _ c.particle-bytes.ensures c.requires.1
     c.particle_sort-sort.ensures c.particle_quantifier-quantifier.ensures c.put_separator-signed.ensures c.if-sort-eq0.false
     c.put_u8-opened.ensures c.put_members-below.ensures c.put_u8-closed.ensures c.put_mark-2.ensures
 

@@ -29,31 +29,31 @@ use Rattle.document_printing.proofs.+put_element_put_row_put_rows.Goals as goal
 
 pub put_element-put_u8-signed-requires : goal.put_element-put_u8-signed-requires
 put_element-put_u8-signed-requires t c =
-    omega (arith, c.requires.1.0.room, c.requires.1.0.few, c.requires.1.1, c.requires.1.2, c.requires.1.3)
+    omega (arith, c.requires.0.room, c.requires.0.few, c.requires.1, c.requires.2, c.requires.3)
 
 pub put_element-put-named-requires : goal.put_element-put-named-requires
 put_element-put-named-requires t c =
-    omega (arith, c.requires.1.0.room, c.requires.1.0.few, c.requires.1.1, c.requires.1.2, c.requires.1.3, c.put_u8-signed.ensures.next)
+    omega (arith, c.requires.0.room, c.requires.0.few, c.requires.1, c.requires.2, c.requires.3, c.put_u8-signed.ensures.next)
 
 pub put_element-put_rows-below-requires : goal.put_element-put_rows-below-requires
 put_element-put_rows-below-requires t c = (
-  omega (arith, c.requires.1.0.room, c.requires.1.0.few, c.requires.1.1, c.requires.1.2, c.requires.1.3),
+  omega (arith, c.requires.0.room, c.requires.0.few, c.requires.1, c.requires.2, c.requires.3),
   (
     record {
-      few = omega (arith, c.requires.1.0.room, c.requires.1.0.few, c.requires.1.1, c.requires.1.2, c.requires.1.3);
-      deep = omega (arith, c.requires.1.0.room, c.requires.1.0.few, c.requires.1.1, c.requires.1.2, c.requires.1.3);
+      few = omega (arith, c.requires.0.room, c.requires.0.few, c.requires.1, c.requires.2, c.requires.3);
+      deep = omega (arith, c.requires.0.room, c.requires.0.few, c.requires.1, c.requires.2, c.requires.3);
       room = omega (
         arith,
-        c.requires.1.0.room,
-        c.requires.1.0.few,
-        c.requires.1.1,
-        c.requires.1.2,
-        c.requires.1.3,
+        c.requires.0.room,
+        c.requires.0.few,
+        c.requires.1,
+        c.requires.2,
+        c.requires.3,
         c.put_u8-signed.ensures.next,
         c.put-named.ensures.next,
       );
     },
-    c.requires.1.4,
+    c.requires.4,
   ),
 )
 
@@ -61,11 +61,11 @@ pub put_element-put-closing-requires : goal.put_element-put-closing-requires
 put_element-put-closing-requires t c =
     omega (
       arith,
-      c.requires.1.0.room,
-      c.requires.1.0.few,
-      c.requires.1.1,
-      c.requires.1.2,
-      c.requires.1.3,
+      c.requires.0.room,
+      c.requires.0.few,
+      c.requires.1,
+      c.requires.2,
+      c.requires.3,
       c.put_rows-below.ensures.small,
       c.put_u8-signed.ensures.next,
       c.put-named.ensures.next,
@@ -75,11 +75,11 @@ pub put_element-put-closed-requires : goal.put_element-put-closed-requires
 put_element-put-closed-requires t c =
     omega (
       arith,
-      c.requires.1.0.room,
-      c.requires.1.0.few,
-      c.requires.1.1,
-      c.requires.1.2,
-      c.requires.1.3,
+      c.requires.0.room,
+      c.requires.0.few,
+      c.requires.1,
+      c.requires.2,
+      c.requires.3,
       c.put_rows-below.ensures.small,
       c.put_u8-signed.ensures.next,
       c.put-named.ensures.next,
@@ -90,11 +90,11 @@ pub put_element-put_u8-requires : goal.put_element-put_u8-requires
 put_element-put_u8-requires t c =
     omega (
       arith,
-      c.requires.1.0.room,
-      c.requires.1.0.few,
-      c.requires.1.1,
-      c.requires.1.2,
-      c.requires.1.3,
+      c.requires.0.room,
+      c.requires.0.few,
+      c.requires.1,
+      c.requires.2,
+      c.requires.3,
       c.put_rows-below.ensures.small,
       c.put_u8-signed.ensures.next,
       c.put-named.ensures.next,
@@ -105,67 +105,67 @@ put_element-put_u8-requires t c =
 pub put_element-returns : goal.put_element-returns
 put_element-returns t c =
     let a = c.args in
-    element_enclosed a.store.now a.rows.now a.w a.count a.i a.depth a.name.now c.requires.1.3 c.put_u8-signed.ensures
+    element_enclosed a.store.now a.rows.now a.w a.count a.i a.depth a.name.now c.requires.3 c.put_u8-signed.ensures
     c.put-named.ensures c.put_rows-below.ensures c.put-closing.ensures c.put-closed.ensures c.put_u8.ensures
 
 pub put_row-short_value-requires : goal.put_row-short_value-requires
 put_row-short_value-requires t c =
-    row_short _ _ _ _ c.requires.1.3 c.row_at-bytes.ensures
+    row_short _ _ _ _ c.requires.3 c.row_at-bytes.ensures
 
 pub put_row-put_attribute-written-requires : goal.put_row-put_attribute-written-requires
 put_row-put_attribute-written-requires t c =
-    (omega (arith, c.requires.1.0.room, c.requires.1.0.few, c.requires.1.1, c.requires.1.2), c.attribute_name_of.ensures.short, c.short_value.ensures.short)
+    (omega (arith, c.requires.0.room, c.requires.0.few, c.requires.1, c.requires.2), c.attribute_name_of.ensures.short, c.short_value.ensures.short)
 
 pub put_row-returns-then-sort-eq2 : goal.put_row-returns-then-sort-eq2
 put_row-returns-then-sort-eq2 t c =
     let a = c.args in
-    attribute_stepped a.store.now a.rows.now a.w a.count a.i a.depth a.opened _ c.row_at-bytes.ensures c.requires.1.1
+    attribute_stepped a.store.now a.rows.now a.w a.count a.i a.depth a.opened _ c.row_at-bytes.ensures c.requires.1
     c.row_sort-sort.ensures c.row_index-index.ensures c.if-sort-eq2.true c.attribute_name_of.ensures
     c.short_value.ensures c.put_attribute-written.ensures
 
 pub put_row-put_element-requires : goal.put_row-put_element-requires
 put_row-put_element-requires t c = (
-  omega (arith, c.requires.1.0.room, c.requires.1.0.few, c.requires.1.1, c.requires.1.2),
+  omega (arith, c.requires.0.room, c.requires.0.few, c.requires.1, c.requires.2),
   (
     record {
-      few = omega (arith, c.requires.1.0.room, c.requires.1.0.few, c.requires.1.1, c.requires.1.2);
-      deep = omega (arith, c.requires.1.0.room, c.requires.1.0.few, c.requires.1.1, c.requires.1.2);
+      few = omega (arith, c.requires.0.room, c.requires.0.few, c.requires.1, c.requires.2);
+      deep = omega (arith, c.requires.0.room, c.requires.0.few, c.requires.1, c.requires.2);
       room = omega (
         arith,
-        c.requires.1.0.room,
-        c.requires.1.0.few,
-        c.requires.1.1,
-        c.requires.1.2,
+        c.requires.0.room,
+        c.requires.0.few,
+        c.requires.1,
+        c.requires.2,
         c.put_end-ended.ensures.next,
         end_short c.args.opened,
       );
     },
-    c.requires.1.1,
-    c.requires.1.2,
+    c.requires.1,
+    c.requires.2,
     c.name_of-name.ensures.short,
-    c.requires.1.3,
+    c.requires.3,
   ),
 )
 
 pub put_row-returns-then-sort-eq1 : goal.put_row-returns-then-sort-eq1
 put_row-returns-then-sort-eq1 t c =
     let a = c.args in
-    row_element_stepped a.store.now a.rows.now a.w a.count a.i a.depth a.opened _ c.row_at-bytes.ensures c.requires.1.1
+    row_element_stepped a.store.now a.rows.now a.w a.count a.i a.depth a.opened _ c.row_at-bytes.ensures c.requires.1
     c.row_sort-sort.ensures c.row_index-index.ensures c.if-sort-eq1.true c.put_end-ended.ensures c.name_of-name.ensures
     c.put_element.ensures
 
 pub put_row-short_value-requires-2 : goal.put_row-short_value-requires-2
 put_row-short_value-requires-2 t c =
-    row_short _ _ _ _ c.requires.1.3 c.row_at-bytes.ensures
+    row_short _ _ _ _ c.requires.3 c.row_at-bytes.ensures
 
 pub put_row-put_escaped-requires : goal.put_row-put_escaped-requires
 put_row-put_escaped-requires t c =
     omega (
       arith,
-      c.requires.1.0.room,
-      c.requires.1.0.few,
-      c.requires.1.1,
-      c.requires.1.2,
+      c.requires.0.room,
+      c.requires.0.few,
+      c.requires.1,
+      c.requires.2,
       c.put_end-ended.ensures.next,
       end_short c.args.opened,
       c.short_value-2.ensures.short,
@@ -174,7 +174,7 @@ put_row-put_escaped-requires t c =
 pub put_row-returns : goal.put_row-returns
 put_row-returns t c =
     let a = c.args in
-    text_stepped a.store.now a.rows.now a.w a.count a.i a.depth a.opened _ c.row_at-bytes.ensures c.requires.1.1
+    text_stepped a.store.now a.rows.now a.w a.count a.i a.depth a.opened _ c.row_at-bytes.ensures c.requires.1
     c.row_sort-sort.ensures c.row_index-index.ensures c.if-sort-eq1.false c.if-sort-eq2.false c.put_end-ended.ensures
     c.short_value-2.ensures c.put_escaped.ensures
 
@@ -183,7 +183,7 @@ put_rows-loop-i-init t c = walk_start _ _ _ _ _ _
 
 pub put_rows-put_end-end-requires : goal.put_rows-put_end-end-requires
 put_rows-put_end-end-requires t c =
-    omega (arith, c.requires.1.0.room, c.requires.1.0.few, c.requires.1.0.deep, c.loop-i.invariant.small)
+    omega (arith, c.requires.0.room, c.requires.0.few, c.requires.0.deep, c.loop-i.invariant.small)
 
 pub put_rows-returns-then-d-depth : goal.put_rows-returns-then-d-depth
 put_rows-returns-then-d-depth t c =
@@ -200,13 +200,13 @@ put_rows-put_row-row-requires t c = (
   omega (arith, c.loop-i.invariant.onward),
   (
     record {
-      few = omega (arith, c.requires.1.0.room, c.requires.1.0.few, c.requires.1.0.deep);
-      deep = omega (arith, c.requires.1.0.room, c.requires.1.0.few, c.requires.1.0.deep);
-      room = omega (arith, c.requires.1.0.room, c.requires.1.0.few, c.requires.1.0.deep, c.loop-i.invariant.small);
+      few = omega (arith, c.requires.0.room, c.requires.0.few, c.requires.0.deep);
+      deep = omega (arith, c.requires.0.room, c.requires.0.few, c.requires.0.deep);
+      room = omega (arith, c.requires.0.room, c.requires.0.few, c.requires.0.deep, c.loop-i.invariant.small);
     },
     omega arith,
     omega arith,
-    c.requires.1.1,
+    c.requires.1,
   ),
 )
 
@@ -240,7 +240,7 @@ put_rows-loop-i-preserved t c =
 
 pub put_rows-put_end-end-requires-2 : goal.put_rows-put_end-end-requires-2
 put_rows-put_end-end-requires-2 t c =
-    omega (arith, c.requires.1.0.room, c.requires.1.0.few, c.requires.1.0.deep, c.loop-i.invariant.small)
+    omega (arith, c.requires.0.room, c.requires.0.few, c.requires.0.deep, c.loop-i.invariant.small)
 
 pub put_rows-returns : goal.put_rows-returns
 put_rows-returns t c =

@@ -1,11 +1,7 @@
 -- `escaping::is_plain` meets its contract: of false nothing is promised. A byte that is none of the four keeps the
 -- invariant (`plain-on` of Laws), and at the end no byte is left to escape (`plain_end`).
-use mathlib.Core.Path.{◌≡◌}
 use mathlib.Core.Bool.{false≢true}
-use Prim.Native.Nat.{◌-◌}
 use native.Mathlib.Omega.{arith}
-use lib.ListN.{length, drop}
-use Rattle.rules.specs.Print.{escape}
 use Rattle.escaping.proofs.Laws.{plain_on, plain_end}
 use Rattle.escaping.proofs.is_plain.Goals as goal
 

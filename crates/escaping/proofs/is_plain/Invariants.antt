@@ -1,10 +1,7 @@
 use mathlib.Core.Path.{◌≡◌}
-use mathlib.Core.Bool.{false≢true}
 use Prim.Native.Nat.{◌-◌}
-use native.Mathlib.Omega.{arith}
 use lib.ListN.{length, drop}
 use Rattle.rules.specs.Print.{escape}
-use Rattle.escaping.proofs.Laws.{plain_on, plain_end}
 use Rattle.escaping.proofs.is_plain.Given as goal
 
 -- if the rest has no byte that is escaped, the whole has none

@@ -2,12 +2,9 @@
 -- is written as it is (`laid_as` of Writers). Else each byte that is written, escaped, keeps the invariant
 -- (`escaping-on` of Laws), and at the end no byte is left to write (`escaping-done`).
 use mathlib.Core.Path.{refl}
-use Prim.Native.Nat.{◌-◌}
 use native.Mathlib.Omega.{arith}
-use borrow.Author.Rules.{rules}
-use lib.ListN.{length}
-use Rattle.codec.proofs.Writers.{laid_as, laid_long}
-use Rattle.escaping.proofs.Laws.{Escaping, escaping_on, escaping_done}
+use Rattle.codec.proofs.Writers.{laid_as}
+use Rattle.escaping.proofs.Laws.{escaping_on, escaping_done}
 use Rattle.escaping.proofs.put_escaped.Goals as goal
 
 pub put-requires : goal.put-requires

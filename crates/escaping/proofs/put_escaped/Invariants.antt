@@ -1,10 +1,6 @@
-use mathlib.Core.Path.{refl}
 use Prim.Native.Nat.{◌-◌}
-use native.Mathlib.Omega.{arith}
-use borrow.Author.Rules.{rules}
 use lib.ListN.{length}
-use Rattle.codec.proofs.Writers.{laid_as, laid_long}
-use Rattle.escaping.proofs.Laws.{Escaping, escaping_on, escaping_done}
+use Rattle.escaping.proofs.Laws.{Escaping}
 use Rattle.escaping.proofs.put_escaped.Given as goal
 
 -- once the rest of the value is written, escaped, all of it is

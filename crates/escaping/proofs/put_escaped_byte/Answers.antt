@@ -5,7 +5,6 @@ use mathlib.Core.Path.{ap}
 use Rattle.rules.specs.Print.{escape_byte}
 use Rattle.codec.proofs.Writers.{laid_as}
 use Rattle.escaping.proofs.Laws.{escape_other}
-use borrow.Author.Rules.{rules}
 use Rattle.escaping.proofs.put_escaped_byte.Goals as goal
 
 pub returns-in-38 : goal.returns-in-38

@@ -26,11 +26,11 @@ use native.Mathlib.Omega.{arith}
 use Prim.Native.Nat.{ℕ, ◌<◌, ◌+◌, ◌-◌, ◌*◌}
 use Rattle.rules.specs.Layout.{particle_size}
 use Rattle.filling.proofs.+put_below_put_definition_put_group_put_member.Goals as goal
-use Rattle.filling.proofs.+put_below_put_definition_put_group_put_member.Goals.{in-Sequence, in-Choice}
+use Rattle.filling.proofs.+put_below_put_definition_put_group_put_member.Goals.{put_member-in-Sequence, put_member-in-Choice+else-accepts_nothing}
 
 pub put_below-put_row-requires : goal.put_below-put_row-requires
 put_below-put_row-requires t c =
-    let q = c.requires.1.1 in (q.width, q.room, omega (arith, q.deep), omega arith, q.text)
+    let q = c.requires.1 in (q.width, q.room, omega (arith, q.deep), omega arith, q.text)
 
 pub put_below-returns-then-needs_no_element : goal.put_below-returns-then-needs_no_element
 put_below-returns-then-needs_no_element t c =
@@ -42,7 +42,7 @@ put_below-returns-then-needs_no_element t c =
 pub put_below-put_group-requires : goal.put_below-put_group-requires
 put_below-put_group-requires t c =
     let a = c.args in
-    let q = c.requires.1.1 in
+    let q = c.requires.1 in
     let short =
     part_short (defs_in a.form.now) (parts_in a.form.now) a.i c.model_part-s.result.now c.model_part-s.ensures in
     (omega (arith, rank_part a.h (length c.model_part-s.result.now) (omega arith)), (omega arith, q))
@@ -76,30 +76,30 @@ put_definition-returns-then-h-eq0 t c =
 
 pub put_definition-put_row-requires : goal.put_definition-put_row-requires
 put_definition-put_row-requires t c =
-    let q = c.requires.1.1 in (q.width, q.room, omega (arith, q.deep), omega arith, omega arith)
+    let q = c.requires.1 in (q.width, q.room, omega (arith, q.deep), omega arith, omega arith)
 
 pub put_definition-overflow_add-depth : goal.put_definition-overflow_add-depth
 put_definition-overflow_add-depth t c =
-    let q = c.requires.1.1 in
+    let q = c.requires.1 in
     omega (arith, q.deep)
 
 pub put_definition-put_required-requires : goal.put_definition-put_required-requires
 put_definition-put_required-requires t c =
-    let q = c.requires.1.1 in (q.width, written_room c.put_row.ensures q.room, q.attributes, omega (arith, q.deep))
+    let q = c.requires.1 in (q.width, written_room c.put_row.ensures q.room, q.attributes, omega (arith, q.deep))
 
 pub put_definition-overflow_sub-h : goal.put_definition-overflow_sub-h
 put_definition-overflow_sub-h t c = omega arith
 
 pub put_definition-overflow_add-depth-2 : goal.put_definition-overflow_add-depth-2
 put_definition-overflow_add-depth-2 t c =
-    let q = c.requires.1.1 in
+    let q = c.requires.1 in
     omega (arith, q.deep)
 
 pub put_definition-put_below-requires : goal.put_definition-put_below-requires
 put_definition-put_below-requires t c =
     let a =
     c.args in
-    let q = c.requires.1.1 in (
+    let q = c.requires.1 in (
       omega (arith, rank_height a.h (λ e. omega arith)),
       (
         omega arith,
@@ -126,7 +126,7 @@ put_definition-returns t c =
 
 pub put_group-loop-t-init : goal.put_group-loop-t-init
 put_group-loop-t-init t c =
-    rest_starts c.requires.1.1.room
+    rest_starts c.requires.1.room
 
 pub put_group-returns-then-c-eq0 : goal.put_group-returns-then-c-eq0
 put_group-returns-then-c-eq0 t c =
@@ -143,7 +143,7 @@ put_group-loop-t-preserved-then-is_passed t c =
 pub put_group-put_member-requires : goal.put_group-put_member-requires
 put_group-put_member-requires t c =
     let a = c.args in
-    let q = c.requires.1.1 in
+    let q = c.requires.1 in
     let i = c.loop-t.invariant in
     let here = rest_here c.loop-t.invariant (omega arith) _ c.particle_depth-own.ensures _ c.is_passed.ensures c.if-is_passed.false in
     let fewer : 4 * length c.loop-t.t.now < 4 * length a.s.now + 1 = omega (arith, i.short) in (
@@ -174,7 +174,7 @@ put_member-returns-then-skips t c =
 pub put_member-put_definition-requires : goal.put_member-put_definition-requires
 put_member-put_definition-requires t c =
     let a = c.args in
-    let q = c.requires.1.2 in
+    let q = c.requires.2 in
     let i = index_small a.s.now _ _ c.read_particle-p.ensures c.in-Element.is
     (c.shared_slice_known-1.given 2).fits in
     (omega (arith, rank_particles a.h 0 (4 * length a.s.now) (omega arith)), (omega arith, q))
@@ -198,7 +198,7 @@ put_member-returns-then-accepts_nothing t c =
 pub put_member-put_group-requires : goal.put_member-put_group-requires
 put_member-put_group-requires t c =
     let a = c.args in
-    let q = c.requires.1.2 in (
+    let q = c.requires.2 in (
       omega (
         arith,
         rank_particles a.h (4 * length (take (length a.s.now - particle_size) (drop particle_size a.s.now)) + 1) (4 * length a.s.now)
@@ -223,9 +223,9 @@ put_member-returns-after-k t c =
     same_written (version_of_filling a.sizes.now) (width_in a.sizes.now) (defs_in a.form.now) (parts_in a.form.now) (attrs_in a.form.now)
     (count_in a.sizes.now) a.text.now.now a.h a.depth _ _
     (elim c.match-k.branch [
-      | in-Sequence w ↦ member_group a.d a.s.now _ c.read_particle-p.ensures _ c.skips.ensures c.if-skips.false _ _
+      | put_member-in-Sequence w ↦ member_group a.d a.s.now _ c.read_particle-p.ensures _ c.skips.ensures c.if-skips.false _ _
           c.in-Group.is _ refl false (filled_list _ _ w.in-Sequence.is) refl
-      | in-Choice w ↦ member_group a.d a.s.now _ c.read_particle-p.ensures _ c.skips.ensures c.if-skips.false _ _
+      | put_member-in-Choice+else-accepts_nothing w ↦ member_group a.d a.s.now _ c.read_particle-p.ensures _ c.skips.ensures c.if-skips.false _ _
           c.in-Group.is _ refl _ (filled_choice _ _ w.in-Choice.is w.accepts_nothing.ensures) w.if-accepts_nothing.false
     ])
     c.put_group.ensures

@@ -11,4 +11,4 @@ returns c =
     let models = c.lay_models in
     let attributes = c.lay_needs in
     table_filled a.version a.w a.n a.defs.now a.parts.now a.attrs.now a.a _ _ c.requires.1 models.ensures attributes.ensures
-    (omega (arith, c.requires.3, models.auto.1.1.1.0, attributes.auto.1.1.1.1.1.0))
+    (omega (arith, c.requires.3, models.auto.table, attributes.auto.table))

@@ -19,7 +19,7 @@ fill-requires c =
 pub bounds-table-i : goal.bounds-table-i
 bounds-table-i c =
     let filled = c.fill in
-    omega (arith, c.loop-i.invariant.long, c.requires.1, filled.auto.1.1.1.0)
+    omega (arith, c.loop-i.invariant.long, c.requires.1, filled.auto.t)
 
 pub loop-i-preserved : goal.loop-i-preserved
 loop-i-preserved c =

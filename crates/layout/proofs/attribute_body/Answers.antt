@@ -1,7 +1,6 @@
 -- `layout::attribute_body` meets its contract: the window begins where `attributes_start` says and is as long as the
 -- product of `times` says, and so is `attributeBody` (`attributes-window` of LayoutLaws).
 use Rattle.layout.proofs.LayoutLaws.{attributes_window}
-use borrow.Author.Rules.{rules}
 use Rattle.layout.proofs.attribute_body.Goals as goal
 
 pub returns : goal.returns

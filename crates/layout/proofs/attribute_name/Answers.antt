@@ -2,7 +2,6 @@
 -- that `readAttribute` reads (`window-by` of LayoutLaws).
 use lib.ListN.{get_or}
 use Rattle.layout.proofs.LayoutLaws.{window_by}
-use borrow.Author.Rules.{rules}
 use Rattle.layout.proofs.attribute_name.Goals as goal
 
 pub returns : goal.returns

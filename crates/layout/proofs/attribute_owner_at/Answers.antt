@@ -3,7 +3,6 @@
 use mathlib.Core.Path.{ap, ◌∙◌}
 use Rattle.rules.specs.Bytes.{Bytes}
 use Rattle.rules.specs.Decode.{read_attribute}
-use borrow.Author.Rules.{rules}
 use Rattle.layout.proofs.attribute_owner_at.Goals as goal
 
 pub returns : goal.returns

@@ -1,7 +1,6 @@
 -- `layout::attribute_sort` meets its contract: the first byte of what follows 18 bytes, as `readAttribute` reads the
 -- sort, is byte 18 (`get_or-drop` of the kit).
 use mathlib.Core.Path.{◌∙◌, sym}
-use borrow.Author.Rules.{rules}
 use lib.Seq.{get_or-drop}
 use Rattle.layout.proofs.attribute_sort.Goals as goal
 

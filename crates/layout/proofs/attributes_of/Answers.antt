@@ -2,7 +2,6 @@
 -- `attribute_body` gives by that shape is the store's attributes (`by_shape` of LayoutLaws).
 use Rattle.layout.proofs.LayoutLaws.{by_shape}
 use Rattle.layout.specs.Bodies.{attribute_body}
-use borrow.Author.Rules.{rules}
 use Rattle.layout.proofs.attributes_of.Goals as goal
 
 pub returns : goal.returns

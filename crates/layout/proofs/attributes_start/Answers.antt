@@ -1,7 +1,6 @@
 -- `layout::attributes_start` meets its contract: the sum is the definition of `attributesStart`, and as the counts of a
 -- shape that fits are below 2^32 it is in range (`attributes-place` of LayoutLaws).
 use Rattle.layout.proofs.LayoutLaws.{attributes_place}
-use borrow.Author.Rules.{rules}
 use Rattle.layout.proofs.attributes_start.Goals as goal
 
 pub returns : goal.returns

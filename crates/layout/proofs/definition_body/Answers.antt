@@ -1,7 +1,6 @@
 -- `layout::definition_body` meets its contract: the window from the end of the header on, 20 bytes for each definition,
 -- is the definition of `definitionBody` (`definitions-window` of LayoutLaws).
 use Rattle.layout.proofs.LayoutLaws.{definitions_window}
-use borrow.Author.Rules.{rules}
 use Rattle.layout.proofs.definition_body.Goals as goal
 
 pub returns : goal.returns

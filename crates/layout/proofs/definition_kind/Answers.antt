@@ -1,7 +1,6 @@
 -- `layout::definition_kind` meets its contract: the first byte of what follows 17 bytes, as `readDefinition` reads the
 -- kind, is byte 17 (`get_or-drop` of the kit).
 use mathlib.Core.Path.{◌∙◌, sym}
-use borrow.Author.Rules.{rules}
 use lib.Seq.{get_or-drop}
 use Rattle.layout.proofs.definition_kind.Goals as goal
 

@@ -2,7 +2,6 @@
 -- `readDefinition` reads it, is that at place 18 (`number-after` of LayoutLaws).
 use mathlib.Core.Path.{◌∙◌, sym}
 use Rattle.layout.proofs.LayoutLaws.{number_after}
-use borrow.Author.Rules.{rules}
 use Rattle.layout.proofs.definition_particles.Goals as goal
 
 pub returns : goal.returns

@@ -2,7 +2,6 @@
 -- record i (`particles-at` of LayoutLaws).
 use mathlib.Core.Path.{◌∙◌}
 use Rattle.layout.proofs.LayoutLaws.{particles_at_lem}
-use borrow.Author.Rules.{rules}
 use Rattle.layout.proofs.definition_particles_at.Goals as goal
 
 pub returns : goal.returns

@@ -2,7 +2,6 @@
 -- `definition_body` gives by that shape is the store's definitions (`by_shape` of LayoutLaws).
 use Rattle.layout.proofs.LayoutLaws.{by_shape}
 use Rattle.layout.specs.Bodies.{definition_body}
-use borrow.Author.Rules.{rules}
 use Rattle.layout.proofs.definitions_of.Goals as goal
 
 pub returns : goal.returns

@@ -1,7 +1,6 @@
 -- `layout::particle_body` meets its contract: the window from the end of the definitions on, 4 bytes for each particle,
 -- is the definition of `particleBody` (`particles-window` of LayoutLaws).
 use Rattle.layout.proofs.LayoutLaws.{particles_window}
-use borrow.Author.Rules.{rules}
 use Rattle.layout.proofs.particle_body.Goals as goal
 
 pub returns : goal.returns

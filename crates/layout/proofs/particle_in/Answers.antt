@@ -3,7 +3,6 @@
 use mathlib.Core.Path.{ap, ◌∙◌}
 use Prim.Native.Nat.{ℕ, ◌+◌, ◌*◌}
 use Rattle.layout.specs.Bodies.{window_of}
-use borrow.Author.Rules.{rules}
 use Rattle.layout.proofs.particle_in.Goals as goal
 
 pub returns : goal.returns

@@ -3,7 +3,6 @@
 use native.Mathlib.Omega.{arith}
 use Rattle.rules.specs.Layout.{particle_size}
 use Rattle.layout.proofs.LayoutLaws.{first_field_by}
-use borrow.Author.Rules.{rules}
 use Rattle.layout.proofs.particle_sort_at.Goals as goal
 
 pub returns : goal.returns

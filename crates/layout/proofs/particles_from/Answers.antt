@@ -3,7 +3,6 @@
 use mathlib.Core.Path.{◌∙◌}
 use Prim.Native.Nat.{◌*◌}
 use Rattle.layout.proofs.LayoutLaws.{cut_past}
-use borrow.Author.Rules.{rules}
 use Rattle.rules.specs.Layout.{particle_size}
 use Rattle.layout.proofs.particles_from.Goals as goal
 

@@ -2,7 +2,6 @@
 -- `particle_body` gives by that shape is the store's particles (`by_shape` of LayoutLaws).
 use Rattle.layout.proofs.LayoutLaws.{by_shape}
 use Rattle.layout.specs.Bodies.{particle_body}
-use borrow.Author.Rules.{rules}
 use Rattle.layout.proofs.particles_of.Goals as goal
 
 pub returns : goal.returns

@@ -1,7 +1,6 @@
 -- `layout::record_at` meets its contract: the window begins at the product of `times`, which is `size * i`, and has the
 -- size of a record (`record-window` of LayoutLaws).
 use Rattle.layout.proofs.LayoutLaws.{record_window}
-use borrow.Author.Rules.{rules}
 use Rattle.layout.proofs.record_at.Goals as goal
 
 pub returns : goal.returns

@@ -1,7 +1,6 @@
 -- `layout::records_from` meets its contract: the window from the product of `times` on, as long as s, is all that
 -- stands from there on (`records-rest` of RecordLaws).
 use Rattle.layout.proofs.RecordLaws.{records_rest}
-use borrow.Author.Rules.{rules}
 use Rattle.layout.proofs.records_from.Goals as goal
 
 pub returns : goal.returns

@@ -1,7 +1,6 @@
 -- `layout::row_body` meets its contract: the window begins where `rows_start` says and is as long as the product of
 -- `times` says, and so is `rowBody` (`rows-window` of LayoutLaws).
 use Rattle.layout.proofs.LayoutLaws.{rows_window}
-use borrow.Author.Rules.{rules}
 use Rattle.layout.proofs.row_body.Goals as goal
 
 pub returns : goal.returns

@@ -1,7 +1,6 @@
 -- `layout::row_serial_at` meets its contract: the four bytes read, 4 past the product of `times`, are the serial of
 -- record i (`serial-placed` of LayoutLaws).
 use Rattle.layout.proofs.LayoutLaws.{serial_placed}
-use borrow.Author.Rules.{rules}
 use Rattle.layout.proofs.row_serial_at.Goals as goal
 
 pub returns : goal.returns

@@ -2,7 +2,6 @@
 -- that `readRow` reads (`window-by` of LayoutLaws).
 use lib.ListN.{get_or}
 use Rattle.layout.proofs.LayoutLaws.{window_by}
-use borrow.Author.Rules.{rules}
 use Rattle.layout.proofs.row_value.Goals as goal
 
 pub returns : goal.returns

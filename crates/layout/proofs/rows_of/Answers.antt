@@ -2,7 +2,6 @@
 -- gives by that shape is the store's rows (`by_shape` of LayoutLaws).
 use Rattle.layout.proofs.LayoutLaws.{by_shape}
 use Rattle.layout.specs.Bodies.{row_body}
-use borrow.Author.Rules.{rules}
 use Rattle.layout.proofs.rows_of.Goals as goal
 
 pub returns : goal.returns

@@ -1,7 +1,6 @@
 -- `layout::shape_of` meets its contract: the version, the width by it and the four counts are what the header says, and
 -- each fits its field (`shaped` of LayoutLaws).
 use Rattle.layout.proofs.LayoutLaws.{shaped}
-use borrow.Author.Rules.{rules}
 use Rattle.layout.proofs.shape_of.Goals as goal
 
 pub returns : goal.returns

@@ -2,7 +2,6 @@
 -- add up to the place where they end (`attributes-through` of LayoutLaws).
 use native.Mathlib.Omega.{arith}
 use Rattle.layout.proofs.LayoutLaws.{attributes_through}
-use borrow.Author.Rules.{rules}
 use Rattle.layout.proofs.through_attributes.Goals as goal
 
 pub returns : goal.returns

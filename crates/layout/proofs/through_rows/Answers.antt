@@ -1,7 +1,6 @@
 -- `layout::through_rows` meets its contract: the place where the rows begin and the product for their bytes add up to
 -- the length (`rows-through` of LayoutLaws).
 use Rattle.layout.proofs.LayoutLaws.{rows_through}
-use borrow.Author.Rules.{rules}
 use Rattle.layout.proofs.through_rows.Goals as goal
 
 pub returns : goal.returns

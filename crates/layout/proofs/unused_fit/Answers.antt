@@ -1,7 +1,6 @@
 -- `layout::unused_fit` meets its contract: the three bytes that are read are those that `unusedFit` tests (`unused-of`
 -- of LayoutLaws).
 use Rattle.layout.proofs.LayoutLaws.{unused_of}
-use borrow.Author.Rules.{rules}
 use Rattle.layout.proofs.unused_fit.Goals as goal
 
 pub returns : goal.returns

@@ -1,7 +1,6 @@
 -- `layout::width_in` meets its contract: the width for the version that is read is that of the store, and it is below
 -- 256 (`width-in` of LayoutLaws).
 use Rattle.layout.proofs.LayoutLaws.{width_in_lem}
-use borrow.Author.Rules.{rules}
 use Rattle.layout.proofs.width_in.Goals as goal
 
 pub returns : goal.returns

@@ -2,7 +2,6 @@
 -- less than n bytes after it (`window-short`), or later, so that all n bytes are there (`window-whole`).
 use native.Mathlib.Omega.{arith}
 use Rattle.layout.proofs.LayoutLaws.{window_past, window_short, window_whole}
-use borrow.Author.Rules.{rules}
 use Rattle.layout.proofs.window.Goals as goal
 
 pub returns-then-s-at : goal.returns-then-s-at

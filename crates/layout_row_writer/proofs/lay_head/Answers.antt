@@ -4,7 +4,6 @@ use mathlib.Core.Path.{refl}
 use native.Mathlib.Omega.{arith}
 use lib.ListN.{length-set}
 use Rattle.layout.specs.RowBytes.{row_start}
-use borrow.Author.Rules.{rules}
 use Rattle.layout_row_writer.proofs.lay_head.Goals as goal
 
 pub bounds-row-1 : goal.bounds-row-1

@@ -3,7 +3,6 @@
 use native.Mathlib.Omega.{arith}
 use Rattle.codec.proofs.Writers.{tail_copied}
 use Rattle.layout_row_writer.proofs.WholeLaws.{row_whole}
-use borrow.Author.Rules.{rules}
 use Rattle.layout_row_writer.proofs.lay_row.Goals as goal
 
 pub returns : goal.returns

@@ -5,7 +5,6 @@ use native.Mathlib.Omega.{arith}
 use Rattle.layout.specs.RowBytes.{row_of}
 use Rattle.layout.proofs.RowLaws.{after_start, row_laid}
 use Rattle.layout_row_writer.proofs.WholeLaws.{row_lent}
-use borrow.Author.Rules.{rules}
 use Rattle.layout_row_writer.proofs.put_row.Goals as goal
 
 pub returns-then-end-out : goal.returns-then-end-out

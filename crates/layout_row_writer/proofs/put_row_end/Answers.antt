@@ -4,7 +4,6 @@
 use Rattle.layout.proofs.RowLaws.{end_is}
 use native.Mathlib.Omega.{arith}
 use Rattle.codec.proofs.Writers.{laid_as, laid_then}
-use borrow.Author.Rules.{rules}
 use Rattle.layout_row_writer.proofs.put_row_end.Goals as goal
 
 pub put_zeros-requires : goal.put_zeros-requires

@@ -5,7 +5,6 @@ use mathlib.Core.Path.{sym}
 use native.Mathlib.Omega.{arith}
 use Rattle.codec.proofs.Writers.{laid_then}
 use lib.Seq.{length-take-le}
-use borrow.Author.Rules.{rules}
 use Rattle.layout_row_writer.proofs.put_row_index.Goals as goal
 
 pub slice_bounds-put-end : goal.slice_bounds-put-end

@@ -5,7 +5,6 @@ use mathlib.Core.Path.{sym, ◌∙◌}
 use native.Mathlib.Omega.{arith}
 use Rattle.layout.proofs.RowLaws.{row_length_lem, after_index, part_length, kept_laid, moved_laid}
 use Prim.Native.Nat.{◌+◌, ◌-◌}
-use borrow.Author.Rules.{rules}
 use Rattle.layout_row_writer.proofs.put_row_moved.Goals as goal
 
 pub returns-then-row_index-index : goal.returns-then-row_index-index

@@ -3,7 +3,6 @@
 -- in `layout`).
 use Rattle.layout.proofs.RowLaws.{start_is}
 use Rattle.codec.proofs.Writers.{laid_as, laid_then}
-use borrow.Author.Rules.{rules}
 use Rattle.layout_row_writer.proofs.put_row_start.Goals as goal
 
 pub returns : goal.returns

@@ -3,7 +3,6 @@
 -- lengths are by `row-length`, `after-index` and `part_length`.
 use native.Mathlib.Omega.{arith}
 use Rattle.layout.proofs.RowLaws.{row_length_lem, after_index, part_length, valued_laid}
-use borrow.Author.Rules.{rules}
 use Rattle.layout_row_writer.proofs.put_row_valued.Goals as goal
 
 pub put_row_index-a-requires : goal.put_row_index-a-requires

@@ -1,12 +1,9 @@
 -- `layout_row_writer::put_zeros` meets its contract: the loop's invariant is kept where a zero is stored at i
 -- (`zeros-step` of RowLaws in `layout`), and at the end of the zeros, or of `out`, nothing is left to store
 -- (`zeros-laid`).
-use mathlib.Core.Path.{◌≡◌, refl}
-use Prim.Native.Nat.{◌-◌}
+use mathlib.Core.Path.{refl}
 use native.Mathlib.Omega.{arith}
-use borrow.Author.Rules.{rules}
-use lib.ListN.{length, replicate, length-set}
-use lib.Seq.{sets}
+use lib.ListN.{length-set}
 use Rattle.layout.proofs.RowLaws.{zeros_step, zeros_laid}
 use Rattle.layout_row_writer.proofs.put_zeros.Goals as goal
 

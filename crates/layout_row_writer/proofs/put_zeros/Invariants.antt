@@ -1,10 +1,7 @@
-use mathlib.Core.Path.{◌≡◌, refl}
+use mathlib.Core.Path.{◌≡◌}
 use Prim.Native.Nat.{◌-◌}
-use native.Mathlib.Omega.{arith}
-use borrow.Author.Rules.{rules}
-use lib.ListN.{length, replicate, length-set}
+use lib.ListN.{length, replicate}
 use lib.Seq.{sets}
-use Rattle.layout.proofs.RowLaws.{zeros_step, zeros_laid}
 use Rattle.layout_row_writer.proofs.put_zeros.Given as goal
 
 -- storing the zeros that are left gives what storing all of them gave at first

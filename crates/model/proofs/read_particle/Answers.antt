@@ -1,7 +1,6 @@
 -- `model::read_particle` meets its contract: the sort, the index and the quantifier's code are read from the bytes at
 -- `at`, and what `read_what` and `read_quantifier` make of them is `particleOf` (`particle-read` of Codes).
 use Rattle.model.proofs.Codes.{particle_read}
-use borrow.Author.Rules.{rules}
 use Rattle.model.proofs.read_particle.Goals as goal
 
 pub returns : goal.returns

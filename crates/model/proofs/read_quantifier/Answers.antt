@@ -2,7 +2,6 @@
 -- other code is that of `Plus` (`plus-of` of Codes).
 use native.Mathlib.Omega.{arith}
 use Rattle.model.proofs.Codes.{plus_of}
-use borrow.Author.Rules.{rules}
 use Rattle.model.proofs.read_quantifier.Goals as goal
 
 pub returns-in_default : goal.returns-in_default

@@ -11,7 +11,6 @@ use Rattle.rules.specs.declared.Quantifier.TheVariants.{None, Qmark, Star, Plus}
 use Rattle.rules.specs.Layout.{quantifier_code}
 use Rattle.rules.specs.Quantifiers.{relaxes}
 use Rattle.model.proofs.Codes.{each_quantifier, code_small}
-use borrow.Author.Rules.{rules}
 use Rattle.model.proofs.relaxes.Goals as goal
 
 abbrev entries : List (List Bool)

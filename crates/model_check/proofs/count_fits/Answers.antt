@@ -1,7 +1,6 @@
 -- `model_check::count_fits` meets its contract. The fields of a particle and the number of its members, by its sort.
 use Rattle.model_check.specs.Particles.{particle_record_at}
 use Rattle.model_check.proofs.ModelLaws.{count_element, count_group}
-use borrow.Author.Rules.{rules}
 use Rattle.model_check.proofs.count_fits.Goals as goal
 
 pub returns-then-sort-eq-ELEMENT : goal.returns-then-sort-eq-ELEMENT

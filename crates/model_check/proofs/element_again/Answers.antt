@@ -1,12 +1,9 @@
 -- `model_check::element_again` meets its contract. The loop's invariant: an element after j is that of particle i if
 -- and only if one after i is. The measure is what is left of the particles.
-use mathlib.Core.Path.{◌≡◌, refl, sym, ◌∙◌}
-use Prim.Native.Nat.{◌+◌, ◌-◌, ◌<◌}
+use mathlib.Core.Path.{refl, sym, ◌∙◌}
+use Prim.Native.Nat.{◌+◌}
 use native.Mathlib.Omega.{arith}
-use borrow.Author.Rules.{rules}
-use lib.ListN.{drop}
-use Rattle.rules.specs.Bytes.{any}
-use Rattle.model_check.specs.Particles.{particle_record_at, particles_read, same_element}
+use Rattle.model_check.specs.Particles.{particle_record_at, same_element}
 use Rattle.model_check.proofs.Reading.{particles_from_lem, particles_end}
 use Rattle.model_check.proofs.Further.{any_on, any_off, any_end}
 use Rattle.model_check.proofs.element_again.Goals as goal

@@ -1,12 +1,8 @@
-use mathlib.Core.Path.{◌≡◌, refl, sym, ◌∙◌}
+use mathlib.Core.Path.{◌≡◌}
 use Prim.Native.Nat.{◌+◌, ◌-◌, ◌<◌}
-use native.Mathlib.Omega.{arith}
-use borrow.Author.Rules.{rules}
 use lib.ListN.{drop}
 use Rattle.rules.specs.Bytes.{any}
 use Rattle.model_check.specs.Particles.{particle_record_at, particles_read, same_element}
-use Rattle.model_check.proofs.Reading.{particles_from_lem, particles_end}
-use Rattle.model_check.proofs.Further.{any_on, any_off, any_end}
 use Rattle.model_check.proofs.element_again.Given as goal
 
 abbrev pub invariant-loop-j : goal.invariant-loop-j

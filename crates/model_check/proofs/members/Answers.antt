@@ -1,12 +1,9 @@
 -- `model_check::members` meets its contract. The loop's invariant: `count` and the members from j on make up the
 -- members from `from` on. The measure is what is left of the particles.
-use Rattle.model_check.specs.Particles.{particle_record_at, particles_read, count_beside}
+use Rattle.model_check.specs.Particles.{particle_record_at}
 use mathlib.Core.Path.{◌≡◌}
-use mathlib.Core.Logic.{⊎_elim}
-use Prim.Native.Nat.{◌+◌, ◌-◌, ◌≤◌, ◌<◌}
+use Prim.Native.Nat.{◌<◌}
 use native.Mathlib.Omega.{arith}
-use borrow.Author.Rules.{rules}
-use lib.ListN.{drop}
 use Rattle.model_check.proofs.Reading.{particles_from_lem, particles_end}
 use Rattle.model_check.proofs.ModelLaws.{members_less, members_same, members_deeper, members_end}
 use Rattle.model_check.proofs.members.Goals as goal

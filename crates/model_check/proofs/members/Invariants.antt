@@ -1,12 +1,7 @@
-use Rattle.model_check.specs.Particles.{particle_record_at, particles_read, count_beside}
+use Rattle.model_check.specs.Particles.{particles_read, count_beside}
 use mathlib.Core.Path.{◌≡◌}
-use mathlib.Core.Logic.{⊎_elim}
-use Prim.Native.Nat.{◌+◌, ◌-◌, ◌≤◌, ◌<◌}
-use native.Mathlib.Omega.{arith}
-use borrow.Author.Rules.{rules}
+use Prim.Native.Nat.{◌+◌, ◌-◌, ◌≤◌}
 use lib.ListN.{drop}
-use Rattle.model_check.proofs.Reading.{particles_from_lem, particles_end}
-use Rattle.model_check.proofs.ModelLaws.{members_less, members_same, members_deeper, members_end}
 use Rattle.model_check.proofs.members.Given as goal
 
 abbrev pub invariant-loop-j : goal.invariant-loop-j

@@ -1,12 +1,11 @@
 -- `model_check::model_fits` meets its contract. The loop's invariant: the walk from particle i on, with depth d
 -- allowed, decides the model. The measure is what is left of the particles.
 use mathlib.Core.Bool.{not}
-use Rattle.model_check.specs.Particles.{particle_record_at, particles_read, walks}
+use Rattle.model_check.specs.Particles.{particle_record_at, particles_read}
 use Rattle.model_check.proofs.ModelLaws.{stands_depth, walks_on, walks_off, walks_end, walks_model}
-use mathlib.Core.Path.{◌≡◌, refl, sym, ◌∙◌, ap}
-use Prim.Native.Nat.{◌+◌, ◌-◌}
+use mathlib.Core.Path.{refl, sym, ◌∙◌, ap}
+use Prim.Native.Nat.{◌+◌}
 use native.Mathlib.Omega.{arith}
-use borrow.Author.Rules.{rules}
 use lib.ListN.{drop}
 use Rattle.model_check.proofs.Reading.{particles_from_lem, particles_end}
 use Rattle.model_check.proofs.model_fits.Goals as goal

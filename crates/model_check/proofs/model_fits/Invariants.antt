@@ -1,11 +1,7 @@
-use Rattle.model_check.specs.Particles.{particle_record_at, particles_read, walks}
-use Rattle.model_check.proofs.ModelLaws.{stands_depth, walks_on, walks_off, walks_end, walks_model}
-use mathlib.Core.Path.{◌≡◌, refl, sym, ◌∙◌}
-use Prim.Native.Nat.{◌+◌, ◌-◌}
-use native.Mathlib.Omega.{arith}
-use borrow.Author.Rules.{rules}
+use Rattle.model_check.specs.Particles.{particles_read, walks}
+use mathlib.Core.Path.{◌≡◌}
+use Prim.Native.Nat.{◌-◌}
 use lib.ListN.{drop}
-use Rattle.model_check.proofs.Reading.{particles_from_lem, particles_end}
 use Rattle.model_check.proofs.model_fits.Given as goal
 
 abbrev pub invariant-loop-i : goal.invariant-loop-i

@@ -4,7 +4,6 @@ use Prim.Native.Nat.{◌+◌}
 use lib.ListN.{drop}
 use Rattle.model_check.specs.Particles.{particle_record_at, particles_read}
 use Rattle.model_check.proofs.ModelLaws.{stands_low, stands_far, stands_by}
-use borrow.Author.Rules.{rules}
 use Rattle.model_check.proofs.particle_stands.Goals as goal
 
 pub returns-then-depth-gt4 : goal.returns-then-depth-gt4

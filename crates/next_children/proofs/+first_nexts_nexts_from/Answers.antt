@@ -3,12 +3,10 @@
 -- (`telling-starts`); a deeper particle is passed (`telling-deeper`), one of depth d is joined (`telling-on`), one less
 -- deep or the end of s ends the members (`telling-stop`, `telling-few`). In a group there are fewer particles, so the
 -- cycle ends.
-use Prim.Native.Nat.{◌+◌, ◌-◌, ◌*◌}
+use Prim.Native.Nat.{◌-◌}
 use native.Mathlib.Omega.{arith}
-use borrow.Author.Rules.{rules}
 use lib.ListN.{length, drop, length-take, length-drop}
-use Rattle.next_children.proofs.ToldLaws.{told_element, told_group, Telling, telling_starts, telling_few, telling_stop, telling_deeper, telling_on}
-use Prim.Native.Nat.{ℕ, ◌<◌}
+use Rattle.next_children.proofs.ToldLaws.{told_element, told_group, telling_starts, telling_few, telling_stop, telling_deeper, telling_on}
 use Rattle.rules.specs.Layout.{particle_size}
 use Rattle.next_children.proofs.+first_nexts_nexts_from.Goals as goal
 

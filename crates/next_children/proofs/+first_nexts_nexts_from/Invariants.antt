@@ -1,10 +1,6 @@
-use Prim.Native.Nat.{◌+◌, ◌-◌, ◌*◌}
-use native.Mathlib.Omega.{arith}
-use borrow.Author.Rules.{rules}
-use lib.ListN.{length, drop, length-take, length-drop}
-use Rattle.next_children.proofs.ToldLaws.{told_element, told_group, Telling, telling_starts, telling_few, telling_stop, telling_deeper, telling_on}
-use Prim.Native.Nat.{ℕ, ◌<◌}
-use Rattle.rules.specs.Layout.{particle_size}
+use Prim.Native.Nat.{◌+◌, ◌*◌}
+use lib.ListN.{length}
+use Rattle.next_children.proofs.ToldLaws.{Telling}
 use Rattle.next_children.proofs.+first_nexts_nexts_from.Given as goal
 
 abbrev pub decreases-first_nexts : goal.decreases-first_nexts

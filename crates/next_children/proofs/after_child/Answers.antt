@@ -2,7 +2,6 @@
 -- (`after-named` of NamesLaws), and any other is in no word, so that nothing follows it and no word ends with it
 -- (`after-other`).
 use Rattle.next_children.proofs.NamesLaws.{after_named, after_other}
-use borrow.Author.Rules.{rules}
 use Rattle.next_children.proofs.after_child.Goals as goal
 
 pub returns-then-contains : goal.returns-then-contains

@@ -5,7 +5,6 @@ use Rattle.model.specs.Members.{all_members}
 use Rattle.next_children.proofs.LineLaws.{line_filled}
 use native.Mathlib.Omega.{arith}
 use lib.ListN.{length-set}
-use borrow.Author.Rules.{rules}
 use Rattle.next_children.proofs.fill.Goals as goal
 
 pub bounds-t-at-2 : goal.bounds-t-at-2

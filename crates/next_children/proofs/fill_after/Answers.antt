@@ -1,11 +1,9 @@
 -- `next_children::fill_after` meets its contract: each step writes the entry of the child x, and x into `ends` if no
 -- child is owed after it, which keeps the invariant (`filling-on` of LineLaws). It holds at first for no child
 -- (`filling-starts`), and at the end for all n (`filling-ends`).
-use Prim.Native.Nat.{◌-◌}
 use native.Mathlib.Omega.{arith}
-use borrow.Author.Rules.{rules}
 use Rattle.model.specs.Members.{all_members}
-use Rattle.next_children.proofs.LineLaws.{Filling, filling_starts, filling_on, filling_ends}
+use Rattle.next_children.proofs.LineLaws.{filling_starts, filling_on, filling_ends}
 use Rattle.next_children.proofs.fill_after.Goals as goal
 
 pub loop-x-init : goal.loop-x-init

@@ -1,8 +1,6 @@
 use Prim.Native.Nat.{◌-◌}
-use native.Mathlib.Omega.{arith}
-use borrow.Author.Rules.{rules}
 use Rattle.model.specs.Members.{all_members}
-use Rattle.next_children.proofs.LineLaws.{Filling, filling_starts, filling_on, filling_ends}
+use Rattle.next_children.proofs.LineLaws.{Filling}
 use Rattle.next_children.proofs.fill_after.Given as goal
 
 -- the entries of the children below x are written, and `ends` has those among them after which no child is owed

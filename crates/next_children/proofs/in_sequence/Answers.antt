@@ -1,7 +1,6 @@
 -- `next_children::in_sequence` meets its contract: the four fields are those of `nextsJoin` for a sequence, where
 -- `union` unfolds to the operator `|` of the code and the two answers of `given` are rewritten by its contract.
 use Rattle.sets.specs.Sets.{union}
-use borrow.Author.Rules.{rules}
 use Rattle.next_children.proofs.in_sequence.Goals as goal
 
 pub returns : goal.returns

@@ -1,6 +1,5 @@
 -- `next_children::joined` meets its contract: in each case of the match the contract of the call, `in_sequence` or
 -- `in_choice`, is this one for that kind.
-use borrow.Author.Rules.{rules}
 use Rattle.next_children.proofs.joined.Goals as goal
 
 pub returns-in-Sequence : goal.returns-in-Sequence

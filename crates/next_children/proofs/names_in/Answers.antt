@@ -2,9 +2,8 @@
 -- keeps the invariant (`naming-on` of NamesLaws). At the end no particle is left to name an element (`naming-ends`).
 use Prim.Native.Nat.{◌-◌}
 use native.Mathlib.Omega.{arith}
-use borrow.Author.Rules.{rules}
 use lib.ListN.{length, drop, length-take, length-drop}
-use Rattle.next_children.proofs.NamesLaws.{Naming, naming_starts, naming_on, naming_ends}
+use Rattle.next_children.proofs.NamesLaws.{naming_starts, naming_on, naming_ends}
 use Rattle.rules.specs.Layout.{particle_size}
 use Rattle.next_children.proofs.names_in.Goals as goal
 

@@ -1,9 +1,5 @@
-use Prim.Native.Nat.{◌-◌}
-use native.Mathlib.Omega.{arith}
-use borrow.Author.Rules.{rules}
-use lib.ListN.{length, drop, length-take, length-drop}
-use Rattle.next_children.proofs.NamesLaws.{Naming, naming_starts, naming_on, naming_ends}
-use Rattle.rules.specs.Layout.{particle_size}
+use lib.ListN.{length}
+use Rattle.next_children.proofs.NamesLaws.{Naming}
 use Rattle.next_children.proofs.names_in.Given as goal
 
 -- what is neither in the set nor in the particles from t on is not in the model

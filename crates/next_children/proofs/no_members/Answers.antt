@@ -1,6 +1,5 @@
 -- `next_children::no_members` meets its contract: in each case of the match the return is the clause of `nextsEmpty`
 -- for that kind, by a rewrite of the kind.
-use borrow.Author.Rules.{rules}
 use Rattle.next_children.proofs.no_members.Goals as goal
 
 pub returns-in-Sequence : goal.returns-in-Sequence

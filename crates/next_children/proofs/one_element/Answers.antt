@@ -1,6 +1,5 @@
 -- `next_children::one_element` meets its contract: the return is `nextsSingle` but for the field `first`, which is
 -- `bit` of i by the contract of `sets::bit`.
-use borrow.Author.Rules.{rules}
 use Rattle.next_children.proofs.one_element.Goals as goal
 
 pub returns : goal.returns

@@ -2,7 +2,6 @@
 -- for that quantifier. For a star and a plus `union` unfolds to the operator `|`, and the answer of `given` is
 -- rewritten by its contract.
 use Rattle.sets.specs.Sets.{union}
-use borrow.Author.Rules.{rules}
 use Rattle.next_children.proofs.quantified.Goals as goal
 
 pub returns-in-Qmark : goal.returns-in-Qmark

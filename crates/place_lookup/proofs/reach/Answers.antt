@@ -12,7 +12,7 @@ use Rattle.model.specs.Places.{reach}
 use Rattle.model.proofs.PlacesLaws.{Left, left_all, left_few, left_stop, left_member, left_pass, left_deeper}
 use Rattle.rules.specs.Layout.{particle_size}
 use Rattle.place_lookup.proofs.reach.Goals as goal
-use Rattle.place_lookup.proofs.reach.Goals.{then-depth-d-2, else-depth-d-2}
+use Rattle.place_lookup.proofs.reach.Goals.{then-depth-d-2+else-m-eq0, else-depth-d-2}
 
 pub loop-t-init : goal.loop-t-init
 loop-t-init c = left_all _ _ _
@@ -39,7 +39,7 @@ pub loop-t-preserved : goal.loop-t-preserved
 loop-t-preserved c =
     let l = c.loop-t in
     elim c.if-depth-d-2.branch [
-      | then-depth-d-2 w ↦ rw w.m-is (left_pass _ _ _ l.t.now _ c.particle_depth-depth.result (omega arith) c.particle_depth-depth.ensures _ w.if-depth-d-2.true w.if-m-eq0.false l.invariant)
+      | then-depth-d-2+else-m-eq0 w ↦ rw w.m-is (left_pass _ _ _ l.t.now _ c.particle_depth-depth.result (omega arith) c.particle_depth-depth.ensures _ w.if-depth-d-2.true w.if-m-eq0.false l.invariant)
       | else-depth-d-2 w ↦ rw w.m-is (left_deeper _ _ _ l.t.now _ c.particle_depth-depth.result (omega arith) c.particle_depth-depth.ensures _ (omega (arith, w.if-depth-d-2.false)) l.invariant)
     ]
 

@@ -1,7 +1,6 @@
 -- `records::attribute_fits` meets its contract: the owner, the sort, the length and the value that are read are the
 -- record's, so the five tests are those of `attributeFits` (`attribute-of` of CodeLaws).
 use Rattle.records.proofs.CodeLaws.{attribute_of_lem}
-use borrow.Author.Rules.{rules}
 use Rattle.records.proofs.attribute_fits.Goals as goal
 
 pub returns : goal.returns

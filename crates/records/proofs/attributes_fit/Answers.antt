@@ -2,14 +2,12 @@
 -- (`each-off` of CodeLaws), any other leaves it to those after it (`each_on`), and with no record left it is true
 -- (`each-end`).
 use Prim.Native.Nat.{ℕ, min}
-use mathlib.Core.Path.{◌≡◌, ap, ◌∙◌}
+use mathlib.Core.Path.{ap, ◌∙◌}
 use lib.ListN.{length, take}
 use Rattle.records.proofs.CodeLaws.{each_on, each_off, each_end}
-use Rattle.records.specs.Records.{attribute_fits, each_fits}
+use Rattle.records.specs.Records.{attribute_fits}
 use Rattle.rules.specs.Layout.{attribute_size}
 use native.Mathlib.Omega.{arith}
-use borrow.Author.Tests.{not-true, not-false}
-use borrow.Author.Rules.{rules}
 use Rattle.records.proofs.attributes_fit.Goals as goal
 
 pub returns-then-not-attribute_fits : goal.returns-then-not-attribute_fits

@@ -1,12 +1,6 @@
-use Prim.Native.Nat.{ℕ, min}
-use mathlib.Core.Path.{◌≡◌, ap, ◌∙◌}
-use lib.ListN.{length, take}
-use Rattle.records.proofs.CodeLaws.{each_on, each_off, each_end}
+use mathlib.Core.Path.{◌≡◌}
 use Rattle.records.specs.Records.{attribute_fits, each_fits}
 use Rattle.rules.specs.Layout.{attribute_size}
-use native.Mathlib.Omega.{arith}
-use borrow.Author.Tests.{not-true, not-false}
-use borrow.Author.Rules.{rules}
 use Rattle.records.proofs.attributes_fit.Given as goal
 
 -- The loop's invariant: all attribute records fit if and only if the `left` ones at the front of `rest` do.

@@ -1,7 +1,6 @@
 -- `records::definition_fits` meets its contract: the kind and the number of particles that are read are the record's,
 -- so the tests are those of `definitionFits` (`definition-of` of CodeLaws).
 use Rattle.records.proofs.CodeLaws.{definition_of_lem}
-use borrow.Author.Rules.{rules}
 use Rattle.records.proofs.definition_fits.Goals as goal
 
 pub returns : goal.returns

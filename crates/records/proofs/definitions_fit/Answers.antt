@@ -1,13 +1,10 @@
 -- `records::definitions_fit` meets its contract: a record for which `definition_fits` is false makes the answer false
 -- (`each-off` of CodeLaws), any other leaves it to those after it (`each_on`), and with no record left it is true
 -- (`each-end`).
-use mathlib.Core.Path.{◌≡◌}
 use Rattle.records.proofs.CodeLaws.{each_on, each_off, each_end}
-use Rattle.records.specs.Records.{definition_fits, each_fits}
+use Rattle.records.specs.Records.{definition_fits}
 use Rattle.rules.specs.Layout.{definition_size}
 use native.Mathlib.Omega.{arith}
-use borrow.Author.Tests.{not-true, not-false}
-use borrow.Author.Rules.{rules}
 use Rattle.records.proofs.definitions_fit.Goals as goal
 
 pub returns-then-not-definition_fits : goal.returns-then-not-definition_fits

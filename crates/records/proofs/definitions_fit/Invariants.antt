@@ -1,10 +1,6 @@
 use mathlib.Core.Path.{◌≡◌}
-use Rattle.records.proofs.CodeLaws.{each_on, each_off, each_end}
 use Rattle.records.specs.Records.{definition_fits, each_fits}
 use Rattle.rules.specs.Layout.{definition_size}
-use native.Mathlib.Omega.{arith}
-use borrow.Author.Tests.{not-true, not-false}
-use borrow.Author.Rules.{rules}
 use Rattle.records.proofs.definitions_fit.Given as goal
 
 -- The loop's invariant: all definition records fit if and only if the `left` ones at the front of `rest` do.

@@ -3,7 +3,6 @@
 use mathlib.Core.Path.{sym}
 use native.Mathlib.Omega.{arith}
 use Rattle.records.proofs.CodeLaws.{filled_wide, filled_of}
-use borrow.Author.Rules.{rules}
 use Rattle.records.proofs.filled.Goals as goal
 
 pub returns-then-width-used : goal.returns-then-width-used

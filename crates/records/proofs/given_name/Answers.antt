@@ -2,7 +2,6 @@
 -- `givenName`.
 use mathlib.Core.Path.{ap₂}
 use mathlib.Core.Bool.{Bool, ◌&&◌, not}
-use borrow.Author.Rules.{rules}
 use Rattle.records.proofs.given_name.Goals as goal
 
 pub returns : goal.returns

@@ -2,7 +2,6 @@
 -- are those used after the length, so the two tests are `nameFits` (`name-fits-of`).
 use mathlib.Core.Path.{sym, ◌∙◌}
 use Rattle.records.proofs.CodeLaws.{name_past, name_fits_of}
-use borrow.Author.Rules.{rules}
 use Rattle.records.proofs.name_fits.Goals as goal
 
 pub returns-then-rec-at : goal.returns-then-rec-at

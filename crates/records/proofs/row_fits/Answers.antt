@@ -2,8 +2,6 @@
 -- CodeLaws), an element has a value (`row-valued`) or none (`row-bare`), the row is neither an attribute nor a text
 -- with index 0 (`row-neither`), its bytes are no value (`row-no-value`) or are one (`row-value`).
 use Rattle.records.proofs.CodeLaws.{row_used, row_valued, row_bare, row_neither, row_no_value, row_value}
-use borrow.Author.Tests.{not-true, not-false}
-use borrow.Author.Rules.{rules}
 use Rattle.records.proofs.row_fits.Goals as goal
 
 pub returns-then-not-unused_fit : goal.returns-then-not-unused_fit

@@ -2,7 +2,6 @@
 -- those of `storedName` (`name-of`).
 use mathlib.Core.Path.{sym}
 use Rattle.records.proofs.CodeLaws.{name_none, name_of_lem}
-use borrow.Author.Rules.{rules}
 use Rattle.records.proofs.stored_name.Goals as goal
 
 pub returns-then-s-eq0 : goal.returns-then-s-eq0

@@ -2,7 +2,6 @@
 -- only its fill (`allows-fixed`).
 use mathlib.Core.Path.{◌∙◌}
 use native.Mathlib.Omega.{arith}
-use borrow.Author.Rules.{rules}
 use Rattle.records.proofs.SortLaws.{allows_any, allows_fixed}
 use Rattle.records.proofs.value_allowed.Goals as goal
 

@@ -1,7 +1,6 @@
 -- `records::value_fits` meets its contract: the bytes read are those used at `at`, so the two tests are `valueFits`
 -- (`value-fits-of` of CodeLaws).
 use Rattle.records.proofs.CodeLaws.{value_fits_of}
-use borrow.Author.Rules.{rules}
 use Rattle.records.proofs.value_fits.Goals as goal
 
 pub returns : goal.returns

@@ -1,13 +1,10 @@
 -- `text_scan::length_before` meets its contract: the byte at which the loop ends is the first `stop` (`counting-stop`
 -- of LoopLaws), any other keeps the invariant (`counting-on`), and past the last byte all are counted (`counting-end`).
-use Prim.Native.Nat.{ℕ, ◌-◌}
 use mathlib.Core.Path.{ap}
 use mathlib.Core.Bool.{not}
 use native.Mathlib.Omega.{arith}
 use borrow.Author.Tests.{eq-eqb, ne_eqb}
-use lib.Dec.{eqb}
-use lib.ListN.{length}
-use Rattle.text_scan.proofs.LoopLaws.{Counting, counting_start, counting_on, counting_stop, counting_end}
+use Rattle.text_scan.proofs.LoopLaws.{counting_start, counting_on, counting_stop, counting_end}
 use Rattle.text_scan.proofs.length_before.Goals as goal
 
 pub loop-i-init : goal.loop-i-init

@@ -1,11 +1,8 @@
 use Prim.Native.Nat.{ℕ, ◌-◌}
-use mathlib.Core.Path.{ap}
 use mathlib.Core.Bool.{not}
-use native.Mathlib.Omega.{arith}
-use borrow.Author.Tests.{eq-eqb, ne_eqb}
 use lib.Dec.{eqb}
 use lib.ListN.{length}
-use Rattle.text_scan.proofs.LoopLaws.{Counting, counting_start, counting_on, counting_stop, counting_end}
+use Rattle.text_scan.proofs.LoopLaws.{Counting}
 use Rattle.text_scan.proofs.length_before.Given as goal
 
 -- no byte before i is `stop`, and the front goes on behind them

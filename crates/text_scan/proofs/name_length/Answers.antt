@@ -1,13 +1,10 @@
 -- `text_scan::name_length` meets its contract: the byte at which the loop ends is the first that may not stand in a
 -- name (`counting-stop` of LoopLaws), any other keeps the invariant (`counting-on`), and past the last byte all are
 -- counted (`counting-end`).
-use Prim.Native.Nat.{◌-◌}
 use mathlib.Core.Path.{sym, ◌∙◌}
 use native.Mathlib.Omega.{arith}
-use borrow.Author.Tests.{not-true, not-false}
-use lib.ListN.{length}
 use Rattle.rules.specs.WellFormed.{in_name}
-use Rattle.text_scan.proofs.LoopLaws.{Counting, counting_start, counting_on, counting_stop, counting_end}
+use Rattle.text_scan.proofs.LoopLaws.{counting_start, counting_on, counting_stop, counting_end}
 use Rattle.text_scan.proofs.name_length.Goals as goal
 
 pub loop-i-init : goal.loop-i-init

@@ -1,10 +1,7 @@
 use Prim.Native.Nat.{◌-◌}
-use mathlib.Core.Path.{sym, ◌∙◌}
-use native.Mathlib.Omega.{arith}
-use borrow.Author.Tests.{not-true, not-false}
 use lib.ListN.{length}
 use Rattle.rules.specs.WellFormed.{in_name}
-use Rattle.text_scan.proofs.LoopLaws.{Counting, counting_start, counting_on, counting_stop, counting_end}
+use Rattle.text_scan.proofs.LoopLaws.{Counting}
 use Rattle.text_scan.proofs.name_length.Given as goal
 
 -- the bytes before i are those of a name, and the front goes on behind them

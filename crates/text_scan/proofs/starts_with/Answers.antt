@@ -1,11 +1,9 @@
 -- `text_scan::starts_with` meets its contract: a text that is shorter than the word does not begin with it
 -- (`starts-short` of LoopLaws). Two bytes that differ settle it (`matching-off`), equal ones keep the invariant
 -- (`matching-on`), and at the end no byte of the word is left (`matching-end`).
-use Prim.Native.Nat.{◌-◌}
 use mathlib.Core.Path.{sym}
 use native.Mathlib.Omega.{arith}
-use lib.ListN.{length}
-use Rattle.text_scan.proofs.LoopLaws.{starts_short, Matching, matching_start, matching_on, matching_off, matching_end}
+use Rattle.text_scan.proofs.LoopLaws.{starts_short, matching_start, matching_on, matching_off, matching_end}
 use Rattle.text_scan.proofs.starts_with.Goals as goal
 
 pub returns-then-text-word : goal.returns-then-text-word

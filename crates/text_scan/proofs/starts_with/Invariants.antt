@@ -1,8 +1,6 @@
 use Prim.Native.Nat.{◌-◌}
-use mathlib.Core.Path.{sym}
-use native.Mathlib.Omega.{arith}
 use lib.ListN.{length}
-use Rattle.text_scan.proofs.LoopLaws.{starts_short, Matching, matching_start, matching_on, matching_off, matching_end}
+use Rattle.text_scan.proofs.LoopLaws.{Matching}
 use Rattle.text_scan.proofs.starts_with.Given as goal
 
 -- the text begins with the word if and only if what follows its first i bytes begins with the rest of the word

@@ -1,7 +1,6 @@
 use Prim.Native.Nat.{◌-◌}
-use native.Mathlib.Omega.{arith}
 use lib.ListN.{length}
-use Rattle.text_scan.proofs.UndoingLaws.{Undoing, undoing_start, undoing_inside, undoing_on, undoing_fault, undoing_end}
+use Rattle.text_scan.proofs.UndoingLaws.{Undoing}
 use Rattle.text_scan.proofs.unescape.Given as goal
 
 -- once the value that the rest of the text stands for is stored from `at` on, the whole value is

@@ -1,4 +1,4 @@
-//! The one_pass test of a row's children against a model: what a part of the model lets follow what.
+//! The one-pass test of a row's children against a model: what a part of the model lets follow what.
 #![tactic(auto)]
 
 ghost use Rattle.std.specs.Prelude.{◌≡◌, ◌<◌, ◌≤◌, length};

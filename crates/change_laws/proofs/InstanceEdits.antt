@@ -1,5 +1,5 @@
 -- Changes 3 to 8 on the rows right below an instance of the owner: the
--- attribute rows stay, the element rows are edited as `childRows` says.
+-- attribute rows stay, the element rows are edited as `child_rows` says.
 use Prim.Native.Nat.{ℕ}
 use mathlib.Core.Path.{◌≡◌, refl, sym, ap, ap₂, ◌∙◌}
 use mathlib.Core.Bool.{Bool, true, false, ◌&&◌, not, false≢true}

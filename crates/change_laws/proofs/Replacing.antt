@@ -1,4 +1,4 @@
--- A well_formed_lem form stays so when a definition is replaced, added or removed, under the conditions of the changes.
+-- A well-formed form stays so when a definition is replaced, added or removed, under the conditions of the changes.
 use Prim.Native.Nat.{ℕ, zero, suc, ◌<◌}
 use mathlib.Core.Path.{◌≡◌, refl, sym, ap, ◌∙◌}
 use mathlib.Core.Logic.{◌⊎◌, inl, inr, ⊎_elim}
@@ -39,7 +39,7 @@ without_names i [] = refl
 without_names zero (d ∷ form) = refl
 without_names (suc i) (d ∷ form) = ap (λ (z : List Bytes). d.name ∷ z) (without_names i form)
 
--- ---- well_formed_lem by what is found
+-- ---- well-formed by what is found
 by_lookup : (w : ℕ) (form : Form) → Distinct (map definition_name form) → ((n : Bytes) (d : Definition) → lookup n form ≡ some d → GoodDefinition w form d) → WellFormed w form
 by_lookup w form once f = record { names = once; definitions = λ d m. f d.name d (lookup_distinct form once d m) }
 

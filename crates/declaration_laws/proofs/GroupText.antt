@@ -1,4 +1,4 @@
--- What is seen of a group by its text: `groupedFrom` passes over names, marks and inner groups, and counts the
+-- What is seen of a group by its text: `grouped_from` passes over names, marks and inner groups, and counts the
 -- separators; by induction on the members.
 use Prim.Native.Nat.{ℕ, zero, suc, ◌+◌}
 use native.Mathlib.Omega.{arith}

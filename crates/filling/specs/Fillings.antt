@@ -1,5 +1,5 @@
 -- 'Filling' by indices: the rows, with their depths and without serials,
--- that the form of the rules' `fillWithin` has names for.
+-- that the form of the rules' `fill_within` has names for.
 use Rattle.std.specs.Prelude.{ℕ, zero, suc, true, false, ◌&&◌, List, [], ◌∷◌, ◌++◌, eqb}
 use Rattle.rules.specs.declared.GroupKind.{GroupKind}
 use Rattle.rules.specs.declared.GroupKind.TheVariants.{Sequence}

@@ -4,7 +4,7 @@ use Rattle.rules.specs.Bytes.{Bytes}
 use Rattle.printing.specs.Texts.{text_of}
 use Rattle.text_scan.specs.Scan.{starts_with}
 
--- room for the text of a form, which has at most 23,232 bytes at width 32 (`form-text-bytes` of `declaration_laws`)
+-- room for the text of a form, which has at most 23,232 bytes at width 32 (`form_text_bytes` of `declaration_laws`)
 abbrev pub form_text_room : ℕ
 form_text_room = 24576
 

@@ -61,7 +61,7 @@ serials_in bs = map serial_of (rows_in bs)
 
 -- ---- a moment at which the store passes and the book says the same
 pub record GoodMoment (m : Moment) : Type 0 where
-  -- 'the DTD is well_formed_lem and every finish list conforms to it'
+  -- 'the DTD is well-formed and every finish list conforms to it'
   pub passing : Passes m.store
   -- 'No serial was given twice', taken rows counted
   pub once : Distinct (ever_made m.book)
@@ -181,7 +181,7 @@ line_then (a ∷ history) m l = line_then history (step a m) (line_after a m l)
 
 -- ---- the statement, of a history from any moment, and of any calls that come later
 pub record Demand3 (from : Moment) (history later : List Asked) : Type 0 where
-  -- 'After it, the DTD is well_formed_lem and every finish list conforms to it. No serial was given twice. .. the store's
+  -- 'After it, the DTD is well-formed and every finish list conforms to it. No serial was given twice. .. the store's
   -- rows .. are exactly the book's untaken lines, in the book's order'
   pub now : GoodMoment (run history from)
   -- 'The next serial never falls'

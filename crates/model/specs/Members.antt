@@ -7,7 +7,7 @@ use Rattle.rules.specs.Preorder.{Deep, build}
 use Rattle.rules.specs.Layout.{particle_size, FlatDefinition, FlatParticle}
 use Rattle.rules.specs.Decode.{quantifier_of, group_of, read_particle, read_many}
 
--- as `memberOf` and `readMembers` of the rules, with the index for the name
+-- as `member_of` and `read_members` of the rules, with the index for the name
 abbrev pub index_member : FlatParticle → ℕ → Members ℕ → Members ℕ → Members ℕ
 index_member p zero below rest = el (quantifier_of p.quantifier) p.index rest
 index_member p (suc k) below rest = group (quantifier_of p.quantifier) (group_of (suc k)) below rest

@@ -21,7 +21,7 @@ abbrev pub owner_at : ℕ → List FlatAttribute → ℕ
 owner_at a cs = (entry_of a cs).owner
 
 -- ---- the plans
--- 9: an attribute of definition o at a (`attributesTo`), of sort k;
+-- 9: an attribute of definition o at a (`attributes_to`), of sort k;
 -- below each instance a row of it if it must be present
 abbrev pub add_attribute_plan : ℕ → ℕ → ℕ → ℕ → Plan
 add_attribute_plan version o a k =
@@ -39,7 +39,7 @@ add_attribute_plan version o a k =
       attributes = record { from = a; more = 1; less = 0 };
     }
 
--- 10: attribute a of definition o (`ownerAt`)
+-- 10: attribute a of definition o (`owner_at`)
 abbrev pub destroy_attribute_plan : ℕ → ℕ → Plan
 destroy_attribute_plan o a =
     record {

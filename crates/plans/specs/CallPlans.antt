@@ -1,4 +1,4 @@
--- The plans by indices of changes 11 to 16; `settingPlan` of no row serves 6 and 7 too, `takingPlan` 4.
+-- The plans by indices of changes 11 to 16; `setting_plan` of no row serves 6 and 7 too, `taking_plan` 4.
 use Rattle.std.specs.Prelude.{ℕ, true, false, eqb, replicate}
 use Rattle.std.proofs.Math.Option.{none, some}
 use Rattle.rules.specs.Bytes.{Bytes}
@@ -89,7 +89,7 @@ text_serial k s = serial_at 0 (children_of is_text_row k (lines 0 s.docs))
 abbrev pub add_document_plan : ℕ → Plan
 add_document_plan i = filling_plan Ground Never (Definition i)
 
--- 12: below element k a filling of definition i before the row m, else last (m: `childSerial`)
+-- 12: below element k a filling of definition i before the row m, else last (m: `child_serial`)
 abbrev pub add_element_plan : ℕ → ℕ → ℕ → Plan
 add_element_plan k m i = filling_plan (Serial k) (Row m) (Definition i)
 
@@ -97,7 +97,7 @@ add_element_plan k m i = filling_plan (Serial k) (Row m) (Definition i)
 abbrev pub destroy_element_plan : ℕ → Plan
 destroy_element_plan k = taking_plan Everything (Serial k)
 
--- 14: the row m of attribute a below element k gets the value (m: `attributeSerial`);
+-- 14: the row m of attribute a below element k gets the value (m: `attribute_serial`);
 -- where none stands a row comes after those of lower index
 abbrev pub set_attribute_plan : ℕ → ℕ → ℕ → Plan
 set_attribute_plan k a m = elim (eqb m 0) [ true ↦ filling_plan (Serial k) (Past a) (Attribute a) | false ↦ setting_plan m ]
@@ -106,6 +106,6 @@ set_attribute_plan k a m = elim (eqb m 0) [ true ↦ filling_plan (Serial k) (Pa
 abbrev pub destroy_attribute_row_plan : ℕ → ℕ → Plan
 destroy_attribute_row_plan k a = taking_plan (Serial k) (Attributes a)
 
--- 16: the text row m (`textSerial`)
+-- 16: the text row m (`text_serial`)
 abbrev pub set_text_plan : ℕ → Plan
 set_text_plan m = setting_plan m

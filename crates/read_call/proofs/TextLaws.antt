@@ -1,5 +1,5 @@
 -- The form of a text in the call's local array, and the answers of the whole call: those of the stages, which are the
--- promised ones (`reads-stages` of Outcome in `text_reading`).
+-- promised ones (`reads_stages` of Outcome in `text_reading`).
 use Prim.Native.Nat.{ℕ, ◌*◌, ◌≤◌, ◌<◌}
 use native.Mathlib.Omega.{arith}
 use native.Mathlib.Nat.{zero-add, mul-zero}

@@ -1,6 +1,6 @@
--- A HISTORY MAY START WITH A READING. The book of a text is the book of the canonical store (read_book_lem), which passes
--- (canonical_good); so the start is a good moment, and Demand 3 holds of all that comes after it. Two starts of one
--- text are one, since printing is one-to-one up to canonical stores (unique).
+-- A HISTORY MAY START WITH A READING. The book of a text is the book of the canonical store (read_book_lem), which
+-- passes (canonical_good); so the start is a good moment, and Demand 3 holds of all that comes after it. Two starts of
+-- one text are one, since printing is one-to-one up to canonical stores (unique).
 use Prim.Native.Nat.{ℕ, zero, suc, ◌+◌, ◌≤◌, ◌<◌}
 use native.Mathlib.Omega.{arith}
 use native.Mathlib.Decide.{dec_le}

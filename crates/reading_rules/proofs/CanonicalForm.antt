@@ -1,4 +1,4 @@
--- The canonical form is well_formed_lem, and the same rows conform to it: names stay, so everything that is said by names
+-- The canonical form is well-formed, and the same rows conform to it: names stay, so everything that is said by names
 -- does; models keep their language, by induction on members; fills change for REQUIRED alone, which allows every value.
 use Prim.Native.Nat.{ℕ}
 use mathlib.Core.Path.{◌≡◌, refl, sym, ap, ap₂, ◌∙◌, subst}
@@ -108,7 +108,7 @@ attribute_names_lem table = map-map attribute_name canonical_attribute table
 definition_names : (form : Form) → map definition_name (map canonical_definition form) ≡ map definition_name form
 definition_names form = map-map definition_name canonical_definition form
 
--- ---- well_formed_lem, where a value has room for the `-`
+-- ---- well-formed, where a value has room for the `-`
 module _ (w : ℕ) (roomy : leb 1 w ≡ true) where
   fill_good : (k : AttributeSort) (v : Bytes) → (is_value w v && is_fill k v) ≡ true → (is_value w (canonical_fill k v) && is_fill k (canonical_fill k v)) ≡ true
   fill_good implied v e = let (h, t) = and_split (is_value w v) (is_fill implied v) e in subst (λ (z : Bytes). (is_value w z && true) ≡ true) (none_nil v t) (and_both h refl)

@@ -1,5 +1,5 @@
 -- THE CANONICAL STORE PASSES: it has as many definitions, particles, attributes and rows, at the same depths; its form
--- is well_formed_lem (CanonicalForm); conforming and layout look at no serial; and the serials from 1 on are new ones.
+-- is well-formed (CanonicalForm); conforming and layout look at no serial; and the serials from 1 on are new ones.
 use Prim.Native.Nat.{ℕ, zero, suc, ◌+◌, ◌≤◌}
 use native.Mathlib.Omega.{arith}
 use mathlib.Core.Path.{◌≡◌, refl, sym, ap, ap₂, ◌∙◌}
@@ -100,7 +100,7 @@ attribute_count_lem o (d ∷ ds) =
     ∙ sym (length-append (own_attributes o d.attributes) (all_attributes (suc o) ds))
 
 -- ---- ceilings
--- `withinCeilings` of the counts
+-- `within_ceilings` of the counts
 abbrev ceilings_hold : ℕ → ℕ → Bool → ℕ → ℕ → Bool
 ceilings_hold d p deep a r = leb d 64 && (leb p 256 && (deep && (leb a 64 && leb r 4096)))
 

@@ -28,7 +28,7 @@ lookup_canonical n (d ∷ ds) = by (same n d.name) (lookup_canonical n ds)
     by true e = refl
     by false e = e
 
--- `isPcdata` of a definition with this content
+-- `is_pcdata` of a definition with this content
 abbrev pub is_textual : Content → Bool
 is_textual c = elim c [ empty ↦ false | pcdata ↦ true | complex ms ↦ false ]
 

@@ -1,8 +1,8 @@
-//! Stops the walk over the tree rows after any number of rows, goes on from its state alone, and counts the answers that
-//! are the whole walk's, on three stores and on faults in their rows. Paper 02, W3: 'From the walk's state after any row,
-//! of at most 4,096 bytes, the bytes before the tree body and the rows left give the whole walk's answer.' The first part
-//! of a walk hands on 130 bytes and nothing else: if the answer hung on more, fewer answers than places would be the
-//! same.
+//! Stops the walk over the tree rows after any number of rows, goes on from its state alone, and counts the answers
+//! that are the whole walk's, on three stores and on faults in their rows. Paper 02, W3: 'From the walk's state after
+//! any row, of at most 4,096 bytes, the bytes before the tree body and the rows left give the whole walk's answer.' The
+//! first part of a walk hands on 130 bytes and nothing else: if the answer hung on more, fewer answers than places
+//! would be the same.
 #![tactic(auto)]
 
 ghost use Rattle.std.specs.Prelude.{◌≡◌, true, ◌*◌, ◌<◌, ◌≤◌, length};

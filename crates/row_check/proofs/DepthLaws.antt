@@ -68,7 +68,8 @@ module _ (f : IndexForm) where
       (more h (omega arith) (below_within h r.index (heads b) (deep (eqb-true r.sort 1 e)) under))
   row_fits_lem d h r b false e l deep under more = none_below (suc d) b under
 
-  -- d elements stand around a forest, and no chain of members from the elements at its top is longer than what is left of 64
+  -- d elements stand around a forest, and no chain of members from the elements at its top is longer than what is left
+  -- of 64
   forest_fits : (t : Forest FlatRow) (d h : ℕ) → d + h ≤ 64 → EndWithin h (heads t) → Everywhere f t → all (element_fits f.size) (preorder d t) ≡ true
   unfolding Everywhere
   forest_fits bare d h l w v = refl
@@ -89,7 +90,8 @@ module _ (f : IndexForm) where
           let known : x.index < f.size = (subst (λ (c : Bool). UnderAs f c x.index (heads b)) (eq-eqb x.sort 1 at) under).known in
           rw e known
 
--- THE DEPTH: where no chain of members is longer than the definitions are many, and these are at most 64, the elements of documents fit
+-- THE DEPTH: where no chain of members is longer than the definitions are many, and these are at most 64, the elements
+-- of documents fit
 pub elements_fit : (f : IndexForm) → f.size ≤ 64 → ((i : ℕ) → i < f.size → deep_index (λ k. names (f.model k)) f.size f.size i ≡ true)
     → (xs : List (Deep FlatRow)) → Documents f xs → all (element_fits f.size) xs ≡ true
 elements_fit f few deep xs d =

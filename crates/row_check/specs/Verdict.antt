@@ -35,7 +35,8 @@ pub record SoundForm (f : IndexForm) : Type 0 where
   pub once : (i : ℕ) → i < f.size → Distinct (names (f.model i))
   pub chains : (i : ℕ) → i < f.size → deep_index (λ k. names (f.model k)) f.size f.size i ≡ true
 
--- the fields of the rows fit, their serials are from 1 and below the next one, and they are those of documents that conform
+-- the fields of the rows fit, their serials are from 1 and below the next one, and they are those of documents that
+-- conform
 pub record RowsConform (b : Before) (count : ℕ) (rows : Bytes) : Type 0 where
   pub fields : fields_fit b.width count rows ≡ true
   pub serials : all (λ x. serial_fits b.next x.row.serial) (rows_read b.width count rows) ≡ true

@@ -1,5 +1,5 @@
-//! One walk over the tree rows, for their fields and serials, their depths, and whether they are those of documents that
-//! conform (paper 02, W3): by the bytes before the tree body, from a state on, over any number of rows.
+//! One walk over the tree rows, for their fields and serials, their depths, and whether they are those of documents
+//! that conform (paper 02, W3): by the bytes before the tree body, from a state on, over any number of rows.
 #![tactic(auto)]
 
 ghost use Rattle.std.specs.Prelude.{◌≡◌, ◌*◌, ◌≤◌, length};

@@ -9,7 +9,7 @@ use Rattle.codec.specs.Laid.{Laid}
 use Rattle.layout.specs.RowBytes.{row_of}
 use Rattle.row_writer.specs.declared.Cursor.{Cursor}
 
--- 'New rows get serials in document order': as `isNewRow`, `newRows`, `given` and
+-- 'New rows get serials in document order': as `is_new_row`, `new_rows`, `given` and
 -- `number` of the rules, on rows in a list; a new row has serial 0
 abbrev pub is_new_row : Deep FlatRow → ℕ
 is_new_row x = elim (eqb x.row.serial 0) [ true ↦ 1 | false ↦ 0 ]

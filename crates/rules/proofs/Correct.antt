@@ -1,4 +1,4 @@
--- The one_pass test accepts exactly the words of a model in which no name stands twice.
+-- The one-pass test accepts exactly the words of a model in which no name stands twice.
 use mathlib.Core.Path.{◌≡◌, sym}
 use mathlib.Core.Logic.{◌⊎◌, ⊎_elim, ◌↔◌}
 use mathlib.Core.Bool.{true}

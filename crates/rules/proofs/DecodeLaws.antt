@@ -354,7 +354,7 @@ good_parts s h =
       next = leb-true _ _ s₅;
     }
 
--- what `goodDefinition` says, apart from distinct attribute names
+-- what `good_definition` says, apart from distinct attribute names
 pub record DefinitionParts (w : ℕ) (form : Form) (d : Definition) : Type 0 where
   pub name : is_name d.name ≡ true
   pub known : all (known form) (names (members d)) ≡ true
@@ -362,8 +362,8 @@ pub record DefinitionParts (w : ℕ) (form : Form) (d : Definition) : Type 0 whe
   pub circle : not (reaches_in form d.name d.name) ≡ true
   pub attributes : Every (λ a. is_attribute_of w a ≡ true) d.attributes
 
--- ---- paper 02, W1: the check's test of a name is that of paper 01 still; a change takes the names that pass it and are
--- not reserved
+-- ---- paper 02, W1: the check's test of a name is that of paper 01 still; a change takes the names that pass it and
+-- are not reserved
 stored_as_before : (n : Bytes) → stored_name n ≡ is_name n
 stored_as_before n = refl
 

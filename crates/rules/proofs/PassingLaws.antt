@@ -25,7 +25,7 @@ module _ (w : ℕ) (form : Form) (ok : well_formed w form ≡ true) where
   pub apart : (n : Bytes) (d : Definition) → lookup n form ≡ some d → Distinct (map attribute_name d.attributes)
   apart n d e = (definition_good w form ok n d e).attribute_names
 
--- in a well_formed_lem form the test for conforming decides it
+-- in a well-formed form the test for conforming decides it
 pub conforming_good : (version w : ℕ) (form : Form) → well_formed w form ≡ true → (docs : Forest Row) → (conforming version form docs ≡ true) ↔ Conforming version form docs
 conforming_good version w form ok docs = conforming_is version form (once w form ok) (apart w form ok) docs
 

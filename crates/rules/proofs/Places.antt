@@ -1,4 +1,4 @@
--- A place that is found is where the model is put together again; what the changes keep of a well_formed_lem model.
+-- A place that is found is where the model is put together again; what the changes keep of a well-formed model.
 use Prim.Native.Nat.{ℕ, zero, suc}
 use mathlib.Core.Path.{◌≡◌, refl, sym, ap, ◌∙◌}
 use mathlib.Core.Logic.{⊎_elim}

@@ -1,4 +1,4 @@
--- Names for indices: the one_pass test says the same.
+-- Names for indices: the one-pass test says the same.
 use mathlib.Core.Path.{◌≡◌, refl, ap, ap₂}
 use mathlib.Core.Bool.{Bool, ◌&&◌}
 use mathlib.Core.List.Memᴰ

@@ -1,4 +1,4 @@
--- The test for well_formed_lem decides it; what a well_formed_lem form gives at a name.
+-- The test for well-formed decides it; what a well-formed form gives at a name.
 use Prim.Native.Nat.{ℕ, zero, suc, ◌<◌}
 use mathlib.Core.Path.{◌≡◌, refl, sym, ap, ◌∙◌}
 use mathlib.Core.Logic.{◌⊎◌, inl, inr, ◌↔◌}

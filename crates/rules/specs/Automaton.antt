@@ -1,4 +1,4 @@
--- The one_pass test of a word against a model: the state is the name read last.
+-- The one-pass test of a word against a model: the state is the name read last.
 use Rattle.std.specs.Prelude.{Bool, true, false, ◌&&◌, ◌||◌, List, [], ◌∷◌}
 use Rattle.rules.specs.declared.Facts.{Facts}
 use Rattle.rules.specs.declared.Quantifier.{Quantifier}

@@ -134,7 +134,7 @@ form_after (set_text k t) form = form
 --   in `filling`, and in the documents until `number`: a new row, which has no serial yet
 --   in `ground`, and as a line's parent: what is above the documents, where change 11 fills
 --   in `set`: no row gets a value (new rows come after values are set)
---   from `serialAt`: there is no such row, so none is that one
+--   from `serial_at`: there is no such row, so none is that one
 pub record Plan : Type 0 where
   pub takes : Row → Row → Bool
   pub fills : Row → Bool

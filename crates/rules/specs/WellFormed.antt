@@ -98,7 +98,7 @@ unreserved d = not (reserved_name d.name) && all (λ (a : Attribute). not (reser
 unfoldable pub none_reserved : Form → Bool
 none_reserved form = all unreserved form
 
--- ---- well_formed_lem
+-- ---- well-formed
 -- a REQUIRED fill is not empty, an IMPLIED value is
 abbrev pub is_fill : AttributeSort → Bytes → Bool
 is_fill implied v = is_none v

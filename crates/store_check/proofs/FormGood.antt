@@ -1,4 +1,4 @@
--- The form that is read from bodies that pass the tests is well_formed_lem just where no definition reaches itself, and
+-- The form that is read from bodies that pass the tests is well-formed just where no definition reaches itself, and
 -- says by name what the bodies say by index. The bodies of a store that passes pass the tests.
 use Prim.Native.Nat.{ℕ, ◌<◌}
 use native.Mathlib.Omega.{arith}
@@ -33,7 +33,7 @@ use Rattle.store_check.proofs.AttributeReads.{own_apart, own_good, all_rise, all
 use Rattle.store_check.proofs.ModelWrites.{ModelGood, models_written, definitions_written}
 use Rattle.store_check.proofs.FormReads.{every_nth, every_index, form_of, form_size, form_apart, bodies_of_lem, read_at_lem, model_at_lem, kind_at, members_at_lem, model_renamed, read_attributes}
 
--- all that well_formed_lem asks of a definition but that it does not reach itself
+-- all that well-formed asks of a definition but that it does not reach itself
 pub record GoodButCircle (w : ℕ) (form : Form) (d : Definition) : Type 0 where
   pub name : stored_name d.name ≡ true
   pub in_range : (m : Bytes) → Memᴰ m (names (members d)) → known form m ≡ true
@@ -62,7 +62,7 @@ module _ (w : ℕ) (f : FlatStore) (fit : FieldsFit w f) (bodies : bodies_fit f 
   pub form_good_but : (d : Definition) → Memᴰ d (form_of f) → GoodButCircle w (form_of f) d
   form_good_but d = every_at (GoodButCircle w (form_of f)) d (form_of f) (every_index (GoodButCircle w (form_of f)) (form_of f) good_at)
 
-  -- well_formed_lem just where there is no circle
+  -- well-formed just where there is no circle
   pub form_good : (well_formed w (form_of f) ≡ true) ↔ ((n : Bytes) → Reaches (form_of f) n n → ⊥)
   form_good = (
     λ ok. no_circle w (form_of f) ok,

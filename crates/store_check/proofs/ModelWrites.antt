@@ -1,4 +1,4 @@
--- What a well_formed_lem form writes into the particle body passes the tests of a model's part.
+-- What a well-formed form writes into the particle body passes the tests of a model's part.
 use Prim.Native.Nat.{ℕ, suc, ◌≤◌}
 use native.Mathlib.Omega.{arith}
 use mathlib.Core.Path.{◌≡◌, refl, ap, ap₂, ◌∙◌, sym, subst}
@@ -87,7 +87,7 @@ module _ (form : Form) where
       past Sequence = refl
       past Choice = refl
 
-  -- what a well_formed_lem form has of a model
+  -- what a well-formed form has of a model
   pub record ModelGood (ms : Members Bytes) : Type 0 where
     pub in_range : Known ms
     pub once : Distinct (names ms)

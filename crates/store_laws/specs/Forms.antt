@@ -14,7 +14,7 @@ form_bytes w g = each definition_bytes g.definitions ++ (each particle_bytes g.p
 unfoldable pub form_read : ℕ → Bytes → ℕ → ℕ → ℕ → FlatStore
 form_read w form d p a = read_bodies w 0 0 d p a 0 form
 
--- the form of g alone, as `formRead` reads it
+-- the form of g alone, as `form_read` reads it
 abbrev pub bare_form : FlatStore → FlatStore
 bare_form g = record { version = 0; next = 0; definitions = g.definitions; particles = g.particles; attributes = g.attributes; rows = [] }
 

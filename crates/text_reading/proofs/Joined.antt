@@ -1,4 +1,4 @@
--- Rows joined to the form of a store that passes: by `checks-read` of `store_check` the form's tests stay, and what is
+-- Rows joined to the form of a store that passes: by `checks_read` of `store_check` the form's tests stay, and what is
 -- left are the tests of the rows.
 use Prim.Native.Nat.{◌+◌, ◌≤◌}
 use mathlib.Core.Path.{◌≡◌, refl, sym, ap, ◌∙◌, subst}

@@ -1,5 +1,5 @@
 -- The rows that a text shows stand just where the store of the form and the rows passes: the verdict of the walk is
--- that the rows read from their bytes conform (`verdict-says` of `row_check`), the serials are counted, and the rest is
+-- that the rows read from their bytes conform (`verdict_says` of `row_check`), the serials are counted, and the rest is
 -- `Joined`.
 use Prim.Native.Nat.{ℕ, ◌+◌, ◌≤◌, ◌<◌}
 use native.Mathlib.Omega.{arith}

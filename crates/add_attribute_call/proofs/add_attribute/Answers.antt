@@ -1,6 +1,6 @@
 -- `add_attribute_call::add_attribute` meets its contract: a store that does not pass is refused with 1 (`bad` of
--- CallLaws), a condition that holds gives its number (`turned-away`); else `write_added` may be called (`addable` of
--- Laws), and its answer is the outcome (`made` of Calls), as `added` is what the change leaves (`add-leaves`).
+-- CallLaws), a condition that holds gives its number (`turned_away`); else `write_added` may be called (`addable` of
+-- Laws), and its answer is the outcome (`made` of Calls), as `added` is what the change leaves (`add_leaves`).
 use mathlib.Core.Path.{ap}
 use mathlib.Core.Bool.{not}
 use lib.ListN.{length}

@@ -1,6 +1,6 @@
 -- `add_attribute_call::write_added` meets its contract: from 64 attributes on one more is past the ceiling, 16
--- (`added_full` of Laws); else what `put_added` lays fits its buffer (`added-fits`, `added-long`), `edit_form` may be
--- called (`added-asks`), and its answer is that for `added` (`added-answers`).
+-- (`added_full` of Laws); else what `put_added` lays fits its buffer (`added_fits`, `added_long`), `edit_form` may be
+-- called (`added_asks`), and its answer is that for `added` (`added_answers`).
 use native.Mathlib.Omega.{arith}
 use borrow.Author.Tests.{leb-true, leb-false}
 use mathlib.Core.Path.{sym, ◌∙◌}

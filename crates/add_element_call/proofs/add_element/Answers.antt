@@ -1,6 +1,6 @@
 -- `add_element_call::add_element` meets its contract: the returns are for a bad store (`bad` of CallLaws), a condition
--- (`turned-away`) and the answer of `edit` (`made-planned` of Calls, `add-element-planned` of CallsPlanned); what
--- `adding_element` and `edit` require is `add-element-there` and `add-element-asks` of Laws.
+-- (`turned_away`) and the answer of `edit` (`made_planned` of Calls, `add_element_planned` of CallsPlanned); what
+-- `adding_element` and `edit` require is `add_element_there` and `add_element_asks` of Laws.
 use mathlib.Core.Path.{ap}
 use mathlib.Core.Bool.{not}
 use borrow.Author.Rules.{rules}

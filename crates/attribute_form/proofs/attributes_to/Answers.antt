@@ -1,6 +1,6 @@
--- `attribute_form::attributes_to` meets its contract: the invariant holds before the first attribute (`counting-start`
--- of CountLaws) and after each, by what `is_up_to` answers of it (`counting-on`); past the last, `sum` counts all
--- attributes of the store (`counting-end`).
+-- `attribute_form::attributes_to` meets its contract: the invariant holds before the first attribute (`counting_start`
+-- of CountLaws) and after each, by what `is_up_to` answers of it (`counting_on`); past the last, `sum` counts all
+-- attributes of the store (`counting_end`).
 use native.Mathlib.Omega.{arith}
 use Prim.Native.Nat.{◌-◌}
 use Rattle.attribute_form.proofs.CountLaws.{Counting, counting_start, counting_on, counting_end}

@@ -1,6 +1,6 @@
 -- `attribute_form::form_of` meets its contract: the bytes from the end of the header up to the first row are those of
--- the form (`form-at` of FormParts), and the rows of a store that passes begin no earlier than its header ends
--- (`start-within` of FormLaws in `store_laws`), so that the difference is in range.
+-- the form (`form_at_lem` of FormParts), and the rows of a store that passes begin no earlier than its header ends
+-- (`start_within` of FormLaws in `store_laws`), so that the difference is in range.
 use native.Mathlib.Omega.{arith}
 use Rattle.store_laws.proofs.StoreLaws.{holds}
 use Rattle.store_laws.proofs.FormLaws.{start_within}

@@ -1,5 +1,5 @@
 -- `attribute_form::is_up_to` meets its contract: the case split is on the owner that is read: up to `owner` the
--- attribute counts 1 (`up_to` of CountLaws), above it 0 (`past-it`).
+-- attribute counts 1 (`up_to` of CountLaws), above it 0 (`past_it`).
 use native.Mathlib.Omega.{arith}
 use Rattle.attribute_form.proofs.CountLaws.{up_to, past_it}
 use borrow.Author.Rules.{rules}

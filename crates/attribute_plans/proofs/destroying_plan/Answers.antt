@@ -1,4 +1,4 @@
--- `attribute_plans::destroying_plan` meets its contract: the plan is that of `destroy_attribute_plan`, with `ownerAt`
+-- `attribute_plans::destroying_plan` meets its contract: the plan is that of `destroy_attribute_plan`, with `owner_at`
 -- put in for what `owner_of` gave.
 use mathlib.Core.Path.{ap, ◌∙◌}
 use Prim.Native.Nat.{ℕ}

@@ -1,5 +1,5 @@
 -- `attribute_plans::owner_of` meets its contract: the attribute is one of the store's, as is required, so that
--- the record that is read is its own and the owner in it is `ownerAt` (`owner-is` of CountLaws in `attribute_form`).
+-- the record that is read is its own and the owner in it is `owner_at` (`owner_is` of CountLaws in `attribute_form`).
 use mathlib.Core.Path.{refl}
 use native.Mathlib.Omega.{arith}
 use Rattle.attribute_form.proofs.CountLaws.{owner_is}

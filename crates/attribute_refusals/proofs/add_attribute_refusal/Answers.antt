@@ -1,6 +1,6 @@
--- `attribute_refusals::add_attribute_refusal` meets its contract: the tests decide the six conditions of `addAttribute`
--- in their order, and each return is the number of the first that holds, 0 where none does (`add-2` to `add-12`,
--- `add-0` of AttributeLaws).
+-- `attribute_refusals::add_attribute_refusal` meets its contract: the tests decide the six conditions of
+-- `add_attribute` in their order, and each return is the number of the first that holds, 0 where none does (`add_2` to
+-- `add_12`, `add_0` of AttributeLaws).
 use mathlib.Core.Path.{ap}
 use mathlib.Core.Bool.{not}
 use native.Mathlib.Omega.{arith}

@@ -1,5 +1,5 @@
--- `attribute_refusals::destroy_attribute_refusal` meets its contract: the one condition of `destroyAttribute` holds
--- where the index is not below the number of attributes, and only there (`destroy-6`, `destroy-0` of AttributeLaws).
+-- `attribute_refusals::destroy_attribute_refusal` meets its contract: the one condition of `destroy_attribute` holds
+-- where the index is not below the number of attributes, and only there (`destroy_6`, `destroy_0` of AttributeLaws).
 use native.Mathlib.Omega.{arith}
 use Rattle.store_check.proofs.StoreFacts.{whole}
 use Rattle.attribute_refusals.proofs.AttributeLaws.{destroy_6, destroy_0}

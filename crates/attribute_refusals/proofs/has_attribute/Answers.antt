@@ -1,6 +1,6 @@
 -- `attribute_refusals::has_attribute` meets its contract: by the search of Searching in `lookup`: an attribute of the
--- owner with the name ends it with true (`searching-hit`), any other is passed (`searching-on`), and past the last it
--- is false (`searching-end`). What is read is the store's (`own_at`, `attributes-any` of AttributeLaws).
+-- owner with the name ends it with true (`searching_hit`), any other is passed (`searching_on`), and past the last it
+-- is false (`searching_end`). What is read is the store's (`own_at`, `attributes_any` of AttributeLaws).
 use Rattle.lookup.proofs.Searching.{Searching, searching_start, searching_hit, searching_on, searching_end}
 use Rattle.attribute_refusals.proofs.AttributeLaws.{attributes_any, own_at}
 use Rattle.attribute_refusals.specs.OwnAttributes.{own_named}

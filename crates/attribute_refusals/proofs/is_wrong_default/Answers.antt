@@ -1,5 +1,5 @@
--- `attribute_refusals::is_wrong_default` meets its contract: each return is the clause of `wrongDefault` for its sort,
--- 0, 1 or any other (`default-0`, `default-1`, `default-2` of AttributeLaws).
+-- `attribute_refusals::is_wrong_default` meets its contract: each return is the clause of `wrong_default` for its sort,
+-- 0, 1 or any other (`default_0`, `default_1`, `default_2` of AttributeLaws).
 use native.Mathlib.Omega.{arith}
 use Rattle.attribute_refusals.proofs.AttributeLaws.{default_0, default_1, default_2}
 use Rattle.attribute_refusals.proofs.is_wrong_default.Goals as goal

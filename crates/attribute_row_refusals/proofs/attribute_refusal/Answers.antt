@@ -1,6 +1,6 @@
 -- `attribute_row_refusals::attribute_refusal` meets its contract by a law of AttributeRefusals for each return: the
--- attribute is not there (`refused-past`), the element is not (`refused_none`), the attribute is of another definition
--- (`refused-other`), or none of these (`refused-not`).
+-- attribute is not there (`refused_past`), the element is not (`refused_none`), the attribute is of another definition
+-- (`refused_other`), or none of these (`refused_not`).
 use mathlib.Core.Path.{sym, ◌∙◌}
 use native.Mathlib.Omega.{arith}
 use Rattle.store_check.proofs.StoreFacts.{Whole, whole}

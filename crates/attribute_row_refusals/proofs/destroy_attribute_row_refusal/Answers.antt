@@ -1,6 +1,6 @@
 -- `attribute_row_refusals::destroy_attribute_row_refusal` meets its contract by a law of AttributeRefusals for each
--- return: a refusal of `attribute_refusal` (`drop-early`), 7 where the element has no row of the attribute (`drop-7`),
--- and 15 if and only if the attribute is needed (`drop-last`).
+-- return: a refusal of `attribute_refusal` (`drop_early`), 7 where the element has no row of the attribute (`drop_7`),
+-- and 15 if and only if the attribute is needed (`drop_last`).
 use mathlib.Core.Path.{◌∙◌}
 use native.Mathlib.Omega.{arith}
 use Rattle.store_check.proofs.StoreFacts.{Whole, whole}

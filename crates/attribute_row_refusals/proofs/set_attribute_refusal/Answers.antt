@@ -1,5 +1,5 @@
 -- `attribute_row_refusals::set_attribute_refusal` meets its contract by a law of AttributeRefusals for each return: 3
--- where the bytes are no value (`set-3`), a refusal of `attribute_refusal` (`set-early`), and 15 if and only if the
+-- where the bytes are no value (`set_3`), a refusal of `attribute_refusal` (`set_early`), and 15 if and only if the
 -- attribute may not have the value (`set_last`).
 use mathlib.Core.Bool.{not}
 use mathlib.Core.Path.{◌∙◌, ap}

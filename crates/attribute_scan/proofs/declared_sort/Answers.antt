@@ -1,5 +1,5 @@
--- `attribute_scan::declared_sort` meets its contract: each arm gives the code of its sort (`sort-implied`,
--- `sort-required`, `sort-fixed` of ValueLaws).
+-- `attribute_scan::declared_sort` meets its contract: each arm gives the code of its sort (`sort_implied`,
+-- `sort_required`, `sort_fixed` of ValueLaws).
 use Rattle.attribute_scan.proofs.ValueLaws.{sort_implied, sort_required, sort_fixed}
 use borrow.Author.Rules.{rules}
 use Rattle.attribute_scan.proofs.declared_sort.Goals as goal

@@ -1,5 +1,5 @@
 -- `attribute_scan::put_declared` meets its contract: the value of each sort is that of the definition, the first w
--- bytes of it (`declares-implied`, `declares-required`, `declares-fixed` of ValueLaws).
+-- bytes of it (`declares_implied`, `declares_required`, `declares_fixed` of ValueLaws).
 use Rattle.attribute_scan.proofs.ValueLaws.{declares_implied, declares_required, declares_fixed, value_short}
 use native.Mathlib.Omega.{arith}
 use borrow.Author.Rules.{rules}

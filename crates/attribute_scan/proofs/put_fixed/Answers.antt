@@ -1,5 +1,5 @@
 -- `attribute_scan::put_fixed` meets its contract: what is kept of the array are the first w bytes of the value
--- (`value-kept` of ValueLaws), which stands between the quotes (`value-quoted`).
+-- (`value_kept` of ValueLaws), which stands between the quotes (`value_quoted`).
 use mathlib.Core.Path.{refl}
 use Rattle.attribute_scan.specs.Values.{quoted_value}
 use Rattle.attribute_scan.proofs.ValueLaws.{value_kept, value_quoted, value_laid, value_short}

@@ -1,6 +1,6 @@
 -- `attribute_writer::put_added` meets its contract: the form up to attribute i, the new attribute and the rest of the
--- form, laid one after the other, are the form with it (`added-laid`, `wide-attribute` of Laws); the places are in
--- range by their lengths (`before_small`, `rest-small` of FormParts, `length-attribute` of LayoutLaws).
+-- form, laid one after the other, are the form with it (`added_laid`, `wide_attribute` of Laws); the places are in
+-- range by their lengths (`before_small`, `rest_small` of FormParts, `length_attribute` of LayoutLaws).
 use native.Mathlib.Omega.{arith}
 use Rattle.rules.proofs.LayoutLaws.{length_attribute}
 use Rattle.lookup.specs.Bodies.{bodies_of}

@@ -1,6 +1,6 @@
 -- `attribute_writer::put_dropped` meets its contract: the form up to attribute i and the form from attribute i + 1 on,
--- laid one after the other, are the form without attribute i (`dropped-laid` of Laws); the places are in range by their
--- lengths (`before_small`, `rest-small` of FormParts).
+-- laid one after the other, are the form without attribute i (`dropped_laid` of Laws); the places are in range by their
+-- lengths (`before_small`, `rest_small` of FormParts).
 use native.Mathlib.Omega.{arith}
 use Rattle.lookup.specs.Bodies.{bodies_of}
 use Rattle.attribute_form.proofs.FormParts.{before_small, rest_small}

@@ -1,7 +1,7 @@
--- `automaton::facts_from` and `automaton::first_facts` meet their contracts: `first_facts` gives the facts of an element
--- (`first-element` of FactsLaws in `model`) or of a group by its members (`first_group`). In `facts_from` the invariant
--- holds at first (`joining-starts`); a deeper particle is passed (`joining-deeper`), one of depth d is joined
--- (`joining-on`), one less deep or the end of s ends the members (`joining-stop`, `joining-few`). In a group there are
+-- `automaton::facts_from` and `automaton::first_facts` meet their contracts: `first_facts` gives the facts of an
+-- element (`first_element` of FactsLaws in `model`) or of a group by its members (`first_group`). In `facts_from` the
+-- invariant holds at first (`joining_starts`); a deeper particle is passed (`joining_deeper`), one of depth d is joined
+-- (`joining_on`), one less deep or the end of s ends the members (`joining_stop`, `joining_few`). In a group there are
 -- fewer particles, so the cycle ends.
 use Prim.Native.Nat.{◌-◌}
 use native.Mathlib.Omega.{arith}

@@ -1,5 +1,5 @@
 -- `automaton::finishes` meets its contract: before the first child the return is whether the model accepts nothing
--- (`finish-none` of FactsLaws in `model`), and after a child whether that child may be the last (`finish-last`).
+-- (`finish_none` of FactsLaws in `model`), and after a child whether that child may be the last (`finish_last`).
 use Rattle.model.proofs.FactsLaws.{finish_none, finish_last}
 use Rattle.automaton.proofs.finishes.Goals as goal
 

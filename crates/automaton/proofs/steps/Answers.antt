@@ -1,5 +1,5 @@
--- `automaton::steps` meets its contract: before the first child the return is whether y may be the first (`step-first`
--- of FactsLaws in `model`), and after a child whether y may follow it (`step-follow`).
+-- `automaton::steps` meets its contract: before the first child the return is whether y may be the first (`step_first`
+-- of FactsLaws in `model`), and after a child whether y may follow it (`step_follow`).
 use Rattle.model.proofs.FactsLaws.{step_first, step_follow}
 use Rattle.automaton.proofs.steps.Goals as goal
 

@@ -1,6 +1,6 @@
 -- `byte_check::all_printable` meets its contract: below eight bytes the contract of `single_printable` is this one.
 -- Else eight bytes that are not all printable make the answer false (`part_off` of TestLaws), any other eight keep the
--- invariant (`part-on`), and the answer is that of the last eight, some of which may have passed before (`part_end`).
+-- invariant (`part_on`), and the answer is that of the last eight, some of which may have passed before (`part_end`).
 use Prim.Native.Nat.{◌-◌}
 use mathlib.Core.Path.{refl}
 use lib.ListN.{length}

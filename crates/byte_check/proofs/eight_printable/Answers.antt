@@ -1,5 +1,5 @@
 -- `byte_check::eight_printable` meets its contract: by the contract of `printable` each test is `between 0x20 0x7E` of
--- one byte, and the eight tests are `all` of the eight bytes (`eight-of` of TestLaws).
+-- one byte, and the eight tests are `all` of the eight bytes (`eight_of` of TestLaws).
 use mathlib.Core.Path.{◌∙◌}
 use mathlib.Core.Bool.{◌&&◌}
 use native.Mathlib.Omega.{arith}

@@ -1,5 +1,5 @@
 -- `byte_check::eight_zeros` meets its contract: the eight tests of one byte each are `zeros` of the eight bytes
--- (`eight-of` of TestLaws).
+-- (`eight_of` of TestLaws).
 use Prim.Native.Nat.{ℕ}
 use lib.Dec.{eqb}
 use native.Mathlib.Omega.{arith}

@@ -1,5 +1,5 @@
--- `byte_check::in_name` meets its contract: a small letter may stand in a name (`small-in-name` of NameLaws); of other
--- bytes the return is `inName` but for the answer of `starts_name`, which by its contract is `startsName`.
+-- `byte_check::in_name` meets its contract: a small letter may stand in a name (`small_in_name` of NameLaws); of other
+-- bytes the return is `in_name` but for the answer of `starts_name`, which by its contract is `starts_name`.
 use mathlib.Core.Path.{ap}
 use mathlib.Core.Bool.{Bool, ◌&&◌, ◌||◌}
 use lib.Dec.{eqb, leb}

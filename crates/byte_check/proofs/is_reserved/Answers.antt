@@ -1,5 +1,5 @@
--- `byte_check::is_reserved` meets its contract: fewer than three bytes are not reserved (`reserved-few` of NameLaws);
--- of three or more the tests of the first three are those of `reservedName` (`reserved-by`).
+-- `byte_check::is_reserved` meets its contract: fewer than three bytes are not reserved (`reserved_few` of NameLaws);
+-- of three or more the tests of the first three are those of `reserved_name` (`reserved_by`).
 use mathlib.Core.Path.{sym}
 use native.Mathlib.Omega.{arith}
 use Rattle.byte_check.proofs.NameLaws.{reserved_few, reserved_by}

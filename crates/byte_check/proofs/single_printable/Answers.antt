@@ -1,5 +1,5 @@
--- `byte_check::single_printable` meets its contract: a byte that is not printable makes the answer false (`all-off` of
--- TestLaws), any other keeps the invariant (`all-on`), and past the last byte the answer is true (`all_end`).
+-- `byte_check::single_printable` meets its contract: a byte that is not printable makes the answer false (`all_off` of
+-- TestLaws), any other keeps the invariant (`all_on`), and past the last byte the answer is true (`all_end`).
 use mathlib.Core.Path.{sym, ◌∙◌}
 use native.Mathlib.Omega.{arith}
 use Rattle.rules.specs.Bytes.{between}

@@ -1,5 +1,5 @@
--- `byte_check::single_zeros` meets its contract: a byte other than 0 makes the answer false (`all-off` of TestLaws), a
--- 0 keeps the invariant (`all-on`), and past the last byte the answer is true (`all_end`).
+-- `byte_check::single_zeros` meets its contract: a byte other than 0 makes the answer false (`all_off` of TestLaws), a
+-- 0 keeps the invariant (`all_on`), and past the last byte the answer is true (`all_end`).
 use Prim.Native.Nat.{ℕ}
 use lib.Dec.{eqb}
 use native.Mathlib.Omega.{arith}

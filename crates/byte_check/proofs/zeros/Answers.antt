@@ -1,6 +1,6 @@
 -- `byte_check::zeros` meets its contract: below eight bytes the contract of `single_zeros` is this one. Else eight
 -- bytes that are not all 0 make the answer false (`part_off` of TestLaws), any other eight keep the invariant
--- (`part-on`), and the answer is that of the last eight, some of which may have passed before (`part_end`).
+-- (`part_on`), and the answer is that of the last eight, some of which may have passed before (`part_end`).
 use Prim.Native.Nat.{ℕ, ◌-◌}
 use mathlib.Core.Path.{refl}
 use lib.ListN.{length}

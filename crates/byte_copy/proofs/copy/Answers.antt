@@ -1,6 +1,6 @@
 -- `byte_copy::copy` meets its contract: fewer than eight bytes are copied by `copy_singly`, whose contract is this one.
 -- Else each step copies eight bytes more, and the last call the last eight, some of which may be copied already
--- (`copy-part` of CopyLaws).
+-- (`copy_part` of CopyLaws).
 use mathlib.Core.Path.{◌≡◌, refl, ap, ◌∙◌}
 use mathlib.Core.List.{List}
 use Prim.Native.Nat.{ℕ, ◌+◌, ◌-◌, zero-le}

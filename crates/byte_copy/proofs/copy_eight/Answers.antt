@@ -1,5 +1,5 @@
 -- `byte_copy::copy_eight` meets its contract: the eight writes, one after the other, are `sets` of the eight bytes from
--- i on (`eight-stored` of CopyLaws). A write keeps the length of `out` (`length-set` of ListN), so that each place is
+-- i on (`eight_stored` of CopyLaws). A write keeps the length of `out` (`length-set` of ListN), so that each place is
 -- in range.
 use native.Mathlib.Omega.{arith}
 use lib.ListN.{length-set}

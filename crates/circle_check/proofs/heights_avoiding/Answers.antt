@@ -1,6 +1,6 @@
--- `circle_check::heights_avoiding` meets its contract: the invariant holds before the first round (`avoiding-starts` of
--- AvoidLaws) and after each, the target's height set to 0 (`avoiding-on`, by the contract of `round`); after n rounds
--- it is the contract (`avoiding-ends`).
+-- `circle_check::heights_avoiding` meets its contract: the invariant holds before the first round (`avoiding_starts` of
+-- AvoidLaws) and after each, the target's height set to 0 (`avoiding_on`, by the contract of `round`); after n rounds
+-- it is the contract (`avoiding_ends`).
 use borrow.Author.Rules.{rules}
 use Prim.Native.Nat.{◌-◌}
 use native.Mathlib.Omega.{arith}

@@ -1,6 +1,6 @@
--- `circle_check::heights_of` meets its contract: the invariant holds before the first round (`rounds-start` of
--- RoundLaws) and after each (`rounds-on`, by the contract of `round`); after n rounds it gives the heights, and with
--- the answer of `whole` whether every chain ends (`rounds-end`).
+-- `circle_check::heights_of` meets its contract: the invariant holds before the first round (`rounds_start` of
+-- RoundLaws) and after each (`rounds_on`, by the contract of `round`); after n rounds it gives the heights, and with
+-- the answer of `whole` whether every chain ends (`rounds_end`).
 use borrow.Author.Rules.{rules}
 use Prim.Native.Nat.{◌-◌}
 use native.Mathlib.Omega.{arith}

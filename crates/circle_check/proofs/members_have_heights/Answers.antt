@@ -1,6 +1,6 @@
 -- `circle_check::members_have_heights` meets its contract: a first particle that does not pass makes the answer false
--- (`settle-no` of MemberLaws), one that passes leaves it to the particles after it (`settle-on`), and with no particle
--- left it is true (`settle-ends`).
+-- (`settle_no` of MemberLaws), one that passes leaves it to the particles after it (`settle_on`), and with no particle
+-- left it is true (`settle_ends`).
 use borrow.Author.Rules.{rules}
 use borrow.Author.Tests.{not-true, not-false}
 use mathlib.Core.Path.{◌≡◌, refl}

@@ -1,5 +1,5 @@
--- `circle_check::raised` meets its contract: a height other than 0 stays (`raised-was` of RoundLaws); else the answer
--- of `members_have_heights` decides between h (`raised-new`) and 0 (`raised-none`).
+-- `circle_check::raised` meets its contract: a height other than 0 stays (`raised_was` of RoundLaws); else the answer
+-- of `members_have_heights` decides between h (`raised_new`) and 0 (`raised_none`).
 use Rattle.rules.specs.Bytes.{all}
 use Rattle.circle_check.specs.Members.{elements_of}
 use Rattle.circle_check.specs.Deep.{has_height}

@@ -1,6 +1,6 @@
--- `circle_check::round` meets its contract: the invariant holds before the first definition (`rounding-starts` of
--- RoundLaws) and after each, by what `particles_part` reads and `raised` answers (`rounding-on`); past the last it is
--- `Round` (`rounding-ends`).
+-- `circle_check::round` meets its contract: the invariant holds before the first definition (`rounding_starts` of
+-- RoundLaws) and after each, by what `particles_part` reads and `raised` answers (`rounding_on`); past the last it is
+-- `Round` (`rounding_ends`).
 use borrow.Author.Rules.{rules}
 use Prim.Native.Nat.{◌-◌}
 use native.Mathlib.Omega.{arith}

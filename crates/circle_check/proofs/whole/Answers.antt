@@ -1,5 +1,5 @@
--- `circle_check::whole` meets its contract: a height of 0 makes the answer false (`passed-no` of RoundLaws); any other
--- keeps the invariant (`passed-starts`, `passed_on`), and past the last definition the answer is true (`passed-ends`).
+-- `circle_check::whole` meets its contract: a height of 0 makes the answer false (`passed_no` of RoundLaws); any other
+-- keeps the invariant (`passed_starts`, `passed_on`), and past the last definition the answer is true (`passed_ends`).
 use borrow.Author.Rules.{rules}
 use native.Mathlib.Omega.{arith}
 use Prim.Native.Nat.{◌-◌}

@@ -1,6 +1,6 @@
 -- `clubform::main` meets its contract: it ensures nothing, so that only what its calls require is proved: each reads
--- the stage that the call before it leaves; the last store has 508 bytes and the next serial 9 (`last-length`,
--- `last-next` of Laws) and fills its buffer (`whole`), and the part that is written is as long as the text (`front`).
+-- the stage that the call before it leaves; the last store has 508 bytes and the next serial 9 (`last_length`,
+-- `last_next` of Laws) and fills its buffer (`whole`), and the part that is written is as long as the text (`front`).
 use borrow.Author.Rules.{rules}
 use Rattle.clubform.proofs.Laws.{front, whole, last_length, last_next}
 use Rattle.clubform.proofs.main.Goals as goal

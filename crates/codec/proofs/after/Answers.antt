@@ -1,4 +1,4 @@
--- `codec::after` meets its contract: below the length the part from n on is `drop n` (`tail-seen` of
+-- `codec::after` meets its contract: below the length the part from n on is `drop n` (`tail_seen` of
 -- Writers), from there on `drop n` is empty (`drop_of_length-le` of lib.ListN).
 use mathlib.Core.Path.{sym}
 use lib.ListN.{drop_of_length-le}

@@ -1,5 +1,5 @@
--- `codec::equal` meets its contract: strings of two lengths differ (`same-lengths` of Strings). Two bytes that differ
--- settle it (`same-off`), equal ones keep the invariant (`same-on`), and at the end nothing is left to compare
+-- `codec::equal` meets its contract: strings of two lengths differ (`same_lengths` of Strings). Two bytes that differ
+-- settle it (`same_off`), equal ones keep the invariant (`same_on`), and at the end nothing is left to compare
 -- (`same_end`).
 use mathlib.Core.Path.{sym, ◌∙◌}
 use native.Mathlib.Omega.{arith}

@@ -1,5 +1,5 @@
 -- `codec::part` meets its contract: the first two returns are those where s is too short for n bytes from `at` on
--- (`part-short` of Strings), and the last is the one where it is not (`part-there`).
+-- (`part_short` of Strings), and the last is the one where it is not (`part_there`).
 use mathlib.Core.Path.{◌≡◌, sym, ap, ◌∙◌}
 use Prim.Native.Nat.{ℕ, ◌+◌, ◌-◌}
 use native.Mathlib.Omega.{arith}

@@ -1,6 +1,6 @@
--- `codec::put` meets its contract: where all of `src` has room it is copied into the tail that is lent (`tail-copied`
--- of Writers), where only `at` lies within `out` it is laid there as far as `out` goes (`tail-sets`), and past the end
--- nothing is stored (`sets-past`).
+-- `codec::put` meets its contract: where all of `src` has room it is copied into the tail that is lent (`tail_copied`
+-- of Writers), where only `at` lies within `out` it is laid there as far as `out` goes (`tail_sets`), and past the end
+-- nothing is stored (`sets_past`).
 use mathlib.Core.Path.{refl, sym}
 use Rattle.codec.proofs.Writers.{tail_copied, tail_sets, sets_past}
 use native.Mathlib.Omega.{arith}

@@ -1,6 +1,6 @@
 -- `convert_call::convert_to_group` meets its contract: the call is refused on a bad store and by a condition
--- (`bad`, `turned-away` of CallLaws). Else the edit fits at the place (`convert-fits` of Laws), and
--- `edit_model` writes what the change leaves (`kept-answers` of Keeping).
+-- (`bad`, `turned_away` of CallLaws). Else the edit fits at the place (`convert_fits` of Laws), and
+-- `edit_model` writes what the change leaves (`kept_answers` of Keeping).
 use mathlib.Core.Bool.{not}
 use mathlib.Core.Path.{sym, ◌∙◌, ap}
 use lib.ListN.{length}

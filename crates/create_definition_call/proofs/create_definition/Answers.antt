@@ -1,6 +1,6 @@
 -- `create_definition_call::create_definition` meets its contract: the returns are for a bad store (`bad` of CallLaws),
--- a condition (`turned-away`), a limit (`answers-limit` of Limits) and none of these (`answers-all`); the bodies after
--- the change are `created` (`flat-after-create` of CreateCall), name and kind fit (`fresh` of CreateConditions).
+-- a condition (`turned_away`), a limit (`answers_limit` of Limits) and none of these (`answers_all`); the bodies after
+-- the change are `created` (`flat_after_create` of CreateCall), name and kind fit (`fresh` of CreateConditions).
 use mathlib.Core.Bool.{not}
 use Rattle.create_definition_call.proofs.CreateCall.{flat_after_create}
 use Rattle.definition_refusals.proofs.CreateConditions.{fresh}

@@ -1,8 +1,8 @@
 -- `declaration_printing::put_member` and `declaration_printing::put_members` meet their contracts: what `put_member`
--- writes is `memberText`, for an element, sort 0 (`element-stepped` of MemberLaws), and for a group (`group-stepped`);
--- the sign has at most one byte (`sign-short`), so that the places are in range. In `put_members` a deeper particle is
--- passed (`walk-deeper` of WalkLaws in `printing_parts`), one less deep or the end of the particles ends the text
--- (`walk-stops`, `walk_ends`), and one of this depth is written (`walk_here`, with `members-tree` of MemberTexts).
+-- writes is `member_text`, for an element, sort 0 (`element_stepped` of MemberLaws), and for a group (`group_stepped`);
+-- the sign has at most one byte (`sign_short`), so that the places are in range. In `put_members` a deeper particle is
+-- passed (`walk_deeper` of WalkLaws in `printing_parts`), one less deep or the end of the particles ends the text
+-- (`walk_stops`, `walk_ends`), and one of this depth is written (`walk_here`, with `members_tree` of MemberTexts).
 -- Twice the number of particles left, plus 1 for `put_members`, falls with each call.
 use borrow.Author.Rules.{rules}
 use mathlib.Core.Path.{◌≡◌, ap, ◌∙◌}

@@ -1,6 +1,6 @@
--- `declaration_printing::has_members` meets its contract: a particle of depth 0 is a member (`build-same` of
--- PreorderLaws in `rules`), a deeper one leaves the answer to the particles after it (`build-less`), and past the last
--- there is no member (`from-none` of Laws in `lookup`).
+-- `declaration_printing::has_members` meets its contract: a particle of depth 0 is a member (`build_same` of
+-- PreorderLaws in `rules`), a deeper one leaves the answer to the particles after it (`build_less`), and past the last
+-- there is no member (`from_none` of Laws in `lookup`).
 use borrow.Author.Rules.{rules}
 use mathlib.Core.Path.{◌≡◌, refl, sym, ap, ◌∙◌}
 use mathlib.Core.List.{List}

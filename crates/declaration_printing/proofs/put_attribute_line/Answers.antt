@@ -1,5 +1,5 @@
 -- `declaration_printing::put_attribute_line` meets its contract: what the seven writers lay one after the other is the
--- line of the attribute, in at most 3000 bytes (`attribute-line` of LineLaws).
+-- line of the attribute, in at most 3000 bytes (`attribute_line_lem` of LineLaws).
 use native.Mathlib.Omega.{arith}
 use Rattle.declaration_printing.proofs.LineLaws.{attribute_line_lem}
 use borrow.Author.Rules.{rules}

@@ -1,6 +1,6 @@
 -- `declaration_printing::put_attributes` meets its contract: the invariant holds at first (`listing_start` of
--- LineLaws), after the line of an attribute of definition o (`listing-this`) and after any other (`listing-other`);
--- past the last all are written (`listing-done`). The places are in range, as each of at most 64 adds at most 3000.
+-- LineLaws), after the line of an attribute of definition o (`listing_this`) and after any other (`listing_other`);
+-- past the last all are written (`listing_done`). The places are in range, as each of at most 64 adds at most 3000.
 use borrow.Author.Rules.{rules}
 use mathlib.Core.Path.{◌≡◌, sym, ap, ◌∙◌}
 use mathlib.Core.List.{List}

@@ -1,6 +1,6 @@
 -- `declaration_printing::put_default` meets its contract: in each case of the sort its default is written
--- (`default-implied`, `default-required`, `default-fixed` of LineLaws), and the places are in range since a fixed value
--- has at most 255 bytes (`default-short` of LineLaws) and escaped at most six times as many (`escape-length` of
+-- (`default_implied`, `default_required`, `default_fixed` of LineLaws), and the places are in range since a fixed value
+-- has at most 255 bytes (`default_short` of LineLaws) and escaped at most six times as many (`escape_length` of
 -- escaping's Laws).
 use native.Mathlib.Omega.{arith}
 use Rattle.declaration_printing.proofs.LineLaws.{default_implied, default_required, default_fixed, default_short}

@@ -1,5 +1,5 @@
 -- `declaration_printing::put_definition` meets its contract: what the five writers lay one after the other is the line
--- of the definition, in at most 641000 bytes (`definition-laid` of LineLaws).
+-- of the definition, in at most 641000 bytes (`definition_laid` of LineLaws).
 use native.Mathlib.Omega.{arith}
 use Rattle.declaration_printing.proofs.LineLaws.{definition_laid}
 use borrow.Author.Rules.{rules}

@@ -1,5 +1,5 @@
 -- `declaration_printing::put_mark` meets its contract: in each case of the match what is written, nothing for 0, is the
--- mark of the quantifier with that code, and every code above 2 is that of `Plus` (`plus-last` of SignLaws).
+-- mark of the quantifier with that code, and every code above 2 is that of `Plus` (`plus_last` of SignLaws).
 use native.Mathlib.Omega.{arith}
 use mathlib.Core.Path.{ap}
 use Prim.Native.Nat.{ℕ}

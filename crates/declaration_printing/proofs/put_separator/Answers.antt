@@ -1,5 +1,5 @@
 -- `declaration_printing::put_separator` meets its contract: nothing stands before the first member, and before another
--- stands the separator of its group, a sequence if the kind is below 2 and else a choice (`group-list`, `group-choice`
+-- stands the separator of its group, a sequence if the kind is below 2 and else a choice (`group_list`, `group_choice`
 -- of SignLaws).
 use mathlib.Core.Path.{ap, ap₂}
 use mathlib.Core.Bool.{Bool}

@@ -1,6 +1,6 @@
 -- `declaration_reading::put_bodies` meets its contract: the definitions that were written aside are those of the form,
--- and so are their names (`written-aside` of FormLaws), so that the three bodies are its own (`bodies-laid`); within
--- the ceilings each can be written (`definitions-ready`, `particles-ready`, `attributes-ready`).
+-- and so are their names (`written_aside` of FormLaws), so that the three bodies are its own (`bodies_laid`); within
+-- the ceilings each can be written (`definitions_ready`, `particles_ready`, `attributes_ready`).
 use Prim.Native.Nat.{ℕ}
 use native.Mathlib.Omega.{arith}
 use lib.ListN.{length-replicate}

@@ -1,6 +1,6 @@
 -- `declaration_reading::put_body` meets its contract: a line that is a declaration is cut off (`cut` of LineLaws), what
--- it says can be written (`writing-first` of BodyLaws), and once it is the invariant holds of the others
--- (`writing-on`). At the first other line nothing is left to write (`writing-done`).
+-- it says can be written (`writing_first` of BodyLaws), and once it is the invariant holds of the others
+-- (`writing_on`). At the first other line nothing is left to write (`writing_done`).
 use mathlib.Core.Path.{refl}
 use native.Mathlib.Omega.{arith}
 use lib.ListN.{length}

@@ -1,6 +1,6 @@
 -- `declaration_reading::put_definition_line` meets its contract: the line of a definition says its name, its kind and
--- the number of its particles (`defines-one` of BodyLaws), which are few (`defines-few`); any other line says none
--- (`defines-none`).
+-- the number of its particles (`defines_one` of BodyLaws), which are few (`defines_few`); any other line says none
+-- (`defines_none`).
 use borrow.Author.Tests.{not-true, not-false}
 use Rattle.declaration_reading.proofs.BodyLaws.{defines_none, defines_few, defines_one}
 use native.Mathlib.Omega.{arith}

@@ -1,6 +1,6 @@
--- `declaration_reading::put_line` meets its contract: each arm writes what the line says of its body (`body-laid` of
--- BodyLaws), and what it requires is what is asked of that body (`ready-as`); no particle is too deep, whatever the
--- names are (`particles-fit` of FormLaws).
+-- `declaration_reading::put_line` meets its contract: each arm writes what the line says of its body (`body_laid` of
+-- BodyLaws), and what it requires is what is asked of that body (`ready_as`); no particle is too deep, whatever the
+-- names are (`particles_fit` of FormLaws).
 use mathlib.Core.List.{[], ◌∷◌}
 use native.Mathlib.Omega.{arith}
 use borrow.Author.Rules.{rules}

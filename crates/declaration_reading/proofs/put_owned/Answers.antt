@@ -1,5 +1,5 @@
--- `declaration_reading::put_owned` meets its contract: the line of a definition says no attribute (`owned-none` of
--- BodyLaws), any other one of the last definition before it (`owned-one`).
+-- `declaration_reading::put_owned` meets its contract: the line of a definition says no attribute (`owned_none` of
+-- BodyLaws), any other one of the last definition before it (`owned_one`).
 use Rattle.declaration_reading.proofs.BodyLaws.{owned_none, owned_one}
 use native.Mathlib.Omega.{arith}
 use borrow.Author.Rules.{rules}

@@ -1,6 +1,6 @@
 -- `declaration_reading::read_form` meets its contract: what `within` tests of the counts is whether the form is within
--- the ceilings, and if it is not the answer is 0 (`form-refused` of FormLaws); else the header and the bodies are its
--- bytes (`form-read`).
+-- the ceilings, and if it is not the answer is 0 (`form_refused` of FormLaws); else the header and the bodies are its
+-- bytes (`form_read_lem`).
 use Rattle.declaration_reading.proofs.FormLaws.{form_fits, counts_fit_lem, head_size, form_refused, form_read_lem}
 use borrow.Author.Tests.{not-true, not-false}
 use borrow.Author.Rules.{rules}

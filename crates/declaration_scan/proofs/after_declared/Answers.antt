@@ -1,4 +1,4 @@
--- `declaration_scan::after_declared` meets its contract: past ten bytes, the name and one byte (`rest-declared` of
+-- `declaration_scan::after_declared` meets its contract: past ten bytes, the name and one byte (`rest_declared` of
 -- Laws).
 use Rattle.declaration_scan.proofs.Laws.{rest_declared}
 use borrow.Author.Rules.{rules}

@@ -1,5 +1,5 @@
--- `declaration_scan::declared_kind` meets its contract: each arm gives the code of its kind (`kind-empty`,
--- `kind-pcdata`, `kind-complex` of Laws).
+-- `declaration_scan::declared_kind` meets its contract: each arm gives the code of its kind (`kind_empty`,
+-- `kind_pcdata`, `kind_complex` of Laws).
 use Rattle.declaration_scan.proofs.Laws.{kind_empty, kind_pcdata, kind_complex}
 use borrow.Author.Rules.{rules}
 use Rattle.declaration_scan.proofs.declared_kind.Goals as goal

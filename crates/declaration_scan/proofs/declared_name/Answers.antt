@@ -1,4 +1,4 @@
--- `declaration_scan::declared_name` meets its contract: the name stands after ten bytes (`name-declared` of Laws).
+-- `declaration_scan::declared_name` meets its contract: the name stands after ten bytes (`name_declared` of Laws).
 use Rattle.declaration_scan.proofs.Laws.{name_declared}
 use borrow.Author.Rules.{rules}
 use Rattle.declaration_scan.proofs.declared_name.Goals as goal

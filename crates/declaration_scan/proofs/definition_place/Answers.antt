@@ -1,6 +1,6 @@
 -- `declaration_scan::definition_place` meets its contract: the first definition of the name is found
--- (`placing-hit` of Laws), any other is passed (`placing-on`), as it is whole (`placing-first`), and past the last the
--- answer is n (`placing-end`).
+-- (`placing_hit` of Laws), any other is passed (`placing_on`), as it is whole (`placing_first`), and past the last the
+-- answer is n (`placing_end`).
 use mathlib.Core.Path.{sym}
 use Prim.Native.Nat.{◌-◌}
 use native.Mathlib.Omega.{arith}

@@ -1,5 +1,5 @@
--- `declaration_scan::mark_code` meets its contract: each arm gives the code of the mark that it met (`mark-optional`,
--- `mark-any`, `mark-some` of Laws), the last that of no mark (`mark-none`).
+-- `declaration_scan::mark_code` meets its contract: each arm gives the code of the mark that it met (`mark_optional`,
+-- `mark_any`, `mark_some` of Laws), the last that of no mark (`mark_none`).
 use Rattle.declaration_scan.proofs.Laws.{mark_optional, mark_any, mark_some, mark_none}
 use borrow.Author.Rules.{rules}
 use Rattle.declaration_scan.proofs.mark_code.Goals as goal

@@ -1,6 +1,6 @@
 -- `definition_creation::put_created` meets its contract: header, definitions, the new definition and what stands after
--- the definitions, laid one after the other, are the bytes of `created` (`created-laid` of CreatedBytes); a store that
--- passes is short (`encoded` of Encoded), so the places are in range (`after-header`, `front-short`, `back-short`).
+-- the definitions, laid one after the other, are the bytes of `created` (`created_laid` of CreatedBytes); a store that
+-- passes is short (`encoded` of Encoded), so the places are in range (`after_header`, `front_short`, `back_short`).
 use Prim.Native.Nat.{◌+◌}
 use Rattle.store_laws.proofs.Encoded.{encoded}
 use Rattle.definition_writer.specs.Bodies.{new_definition}

@@ -1,6 +1,6 @@
--- `definition_refusals::create_limit` meets its contract: from 64 definitions on one more is too many (`at-ceiling` of
+-- `definition_refusals::create_limit` meets its contract: from 64 definitions on one more is too many (`at_ceiling` of
 -- CreateLimits); below that the store grows by the size of a definition, for which there is no room (`no_room`) or
--- there is (`no-limit`).
+-- there is (`no_limit`).
 use Rattle.definition_refusals.proofs.CreateLimits.{at_ceiling, no_room, no_limit}
 use native.Mathlib.Omega.{arith}
 use borrow.Author.Rules.{rules}

@@ -1,6 +1,6 @@
 -- `definition_refusals::destroy_condition` meets its contract: each return is the number of the first condition of
--- `destroyDefinition` that holds: 6 where the index is not below the count (`unknown` of DestroyConditions), 10 where a
--- model has the definition or a document is one of it (`used`), else 0 (`unused`).
+-- `destroy_definition` that holds: 6 where the index is not below the count (`unknown` of DestroyConditions), 10 where
+-- a model has the definition or a document is one of it (`used`), else 0 (`unused`).
 use Rattle.definition_refusals.proofs.DestroyConditions.{unknown, used, unused}
 use native.Mathlib.Omega.{arith}
 use borrow.Author.Rules.{rules}

@@ -1,5 +1,5 @@
 -- `definition_refusals::destroy_limit` meets its contract: the counts that are left give the length of the store
--- without definition i, which is above the room (`short-room` of DestroyLimits) or not (`enough-room`).
+-- without definition i, which is above the room (`short_room` of DestroyLimits) or not (`enough_room`).
 use Rattle.definition_refusals.proofs.DestroyLimits.{short_room, enough_room}
 use native.Mathlib.Omega.{arith}
 use borrow.Author.Rules.{rules}

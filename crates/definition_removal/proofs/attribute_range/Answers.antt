@@ -1,5 +1,5 @@
 -- `definition_removal::attribute_range` meets its contract: the two answers of `attribute_start` are the numbers of
--- attributes that the first i and the first i + 1 definitions have, the second no less (`between`, `attributes-step` of
+-- attributes that the first i and the first i + 1 definitions have, the second no less (`between`, `attributes_step` of
 -- Left); i + 1 is in range as there are at most 64 definitions (`encoded` of Encoded in `store_laws`).
 use Rattle.definition_removal.proofs.Left.{between, attributes_step}
 use Rattle.store_laws.proofs.Encoded.{encoded}

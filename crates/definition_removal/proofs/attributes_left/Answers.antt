@@ -1,6 +1,6 @@
 -- `definition_removal::attributes_left` meets its contract: the range of definition i lies within the count, as
 -- `count_left` requires, and the count less that range is the number of attributes that `destroyed` leaves, at most 64
--- (`attributes-left` of Left).
+-- (`attributes_left` of Left).
 use Rattle.definition_removal.proofs.Left.{attributes_left}
 use native.Mathlib.Omega.{arith}
 use borrow.Author.Rules.{rules}

@@ -1,6 +1,6 @@
 -- `definition_removal::has_member` meets its contract: the loop is the search of Searching in `lookup`: it begins with
--- all particles (`searching-start`), an element with the definition's index ends it with true (`searching-hit`), any
--- other particle is passed (`searching-on`), and past the last the answer is false (`searching-end`).
+-- all particles (`searching_start`), an element with the definition's index ends it with true (`searching_hit`), any
+-- other particle is passed (`searching_on`), and past the last the answer is false (`searching_end`).
 use Rattle.lookup.proofs.Searching.{Searching, searching_start, searching_hit, searching_on, searching_end}
 use Rattle.definition_removal.specs.Bodies.{is_member}
 use Rattle.rules.specs.Layout.{particle_size}

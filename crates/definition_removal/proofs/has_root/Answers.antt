@@ -1,6 +1,6 @@
 -- `definition_removal::has_root` meets its contract: the loop is the search of Searching in `lookup`: it begins with
--- all rows (`searching-start`), a document of the definition ends it with true (`searching-hit`), any other row is
--- passed (`searching-on`), and past the last the answer is false (`searching-end`).
+-- all rows (`searching_start`), a document of the definition ends it with true (`searching_hit`), any other row is
+-- passed (`searching_on`), and past the last the answer is false (`searching_end`).
 use Rattle.lookup.proofs.Searching.{Searching, searching_start, searching_hit, searching_on, searching_end}
 use Rattle.definition_removal.specs.Bodies.{is_root}
 use Rattle.rules.specs.Layout.{row_size}

@@ -1,4 +1,4 @@
--- `definition_removal::is_member` meets its contract: the test is the definition of `isMember`, with the sort and the
+-- `definition_removal::is_member` meets its contract: the test is the definition of `is_member`, with the sort and the
 -- index that the two readers give by their contracts.
 use lib.Dec.{eqb}
 use mathlib.Core.Bool.{◌&&◌}

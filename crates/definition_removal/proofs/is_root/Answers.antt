@@ -1,4 +1,4 @@
--- `definition_removal::is_root` meets its contract: the test is the definition of `isRoot`, with the depth, the sort
+-- `definition_removal::is_root` meets its contract: the test is the definition of `is_root`, with the depth, the sort
 -- and the index that the three readers give by their contracts.
 use lib.Dec.{eqb}
 use mathlib.Core.Bool.{◌&&◌}

@@ -1,5 +1,5 @@
 -- `definition_removal::lower` meets its contract: an index from `from` on falls by `less` (`lower_high` of Moving), and
--- one below `from` stays (`lower-low`).
+-- one below `from` stays (`lower_low`).
 use Rattle.definition_removal.proofs.Moving.{lower_high, lower_low}
 use native.Mathlib.Omega.{arith}
 use borrow.Author.Rules.{rules}

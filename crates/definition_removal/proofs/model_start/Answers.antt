@@ -1,5 +1,5 @@
 -- `definition_removal::model_start` meets its contract: what `particles_before` counts in the store's definitions is
--- the number of particles of the first i, at most that of all (`model-starts` of Left); i is in range as there are at
+-- the number of particles of the first i, at most that of all (`model_starts` of Left); i is in range as there are at
 -- most 64 definitions (`encoded` of Encoded in `store_laws`).
 use Rattle.definition_removal.proofs.Left.{model_starts}
 use Rattle.store_laws.proofs.Encoded.{encoded}

@@ -1,5 +1,5 @@
 -- `definition_removal::one_below` meets its contract: the return is 1 where the owner that is read is below i
--- (`below-yes` of Moving), and 0 where it is not (`below-no`).
+-- (`below_yes` of Moving), and 0 where it is not (`below_no`).
 use Rattle.definition_removal.proofs.Moving.{below_yes, below_no}
 use native.Mathlib.Omega.{arith}
 use borrow.Author.Rules.{rules}

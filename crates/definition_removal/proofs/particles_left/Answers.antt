@@ -1,6 +1,6 @@
 -- `definition_removal::particles_left` meets its contract: the range of definition i lies within the count, as
 -- `count_left` requires, and the count less that range is the number of particles that `destroyed` leaves, at most 256
--- (`models-left` of Left).
+-- (`models_left` of Left).
 use Rattle.definition_removal.proofs.Left.{models_left}
 use native.Mathlib.Omega.{arith}
 use borrow.Author.Rules.{rules}

@@ -1,5 +1,5 @@
 -- `definition_removal::put_attribute` meets its contract: the record is written with the owner that `lower_byte` gives
--- for the owner that is read, which is `attributeRecord` (`attribute-laid` of Moving).
+-- for the owner that is read, which is `attribute_record` (`attribute_laid` of Moving).
 use Rattle.definition_removal.proofs.Moving.{attribute_laid}
 use Rattle.definition_removal.specs.Bodies.{lowered}
 use Prim.Native.Nat.{suc}

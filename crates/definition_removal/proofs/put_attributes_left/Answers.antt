@@ -1,6 +1,6 @@
 -- `definition_removal::put_attributes_left` meets its contract: the attributes before those of definition i and those
--- after them are what `destroyed` leaves (`attributes-laid` of LeftBytes); counts and places are in range by `encoded`
--- of Encoded in `store_laws` and by the length of a record (`records-short`, `attribute-short` of Again).
+-- after them are what `destroyed` leaves (`attributes_laid` of LeftBytes); counts and places are in range by `encoded`
+-- of Encoded in `store_laws` and by the length of a record (`records_short`, `attribute_short` of Again).
 use Rattle.definition_removal.proofs.LeftBytes.{attributes_laid}
 use Rattle.definition_removal.proofs.Again.{records_short, attribute_short}
 use Rattle.store_laws.proofs.Encoded.{encoded}

@@ -1,6 +1,6 @@
 -- `definition_removal::put_definitions_left` meets its contract: the definitions before number i and those after it are
--- what `destroyed` leaves (`definitions-laid` of LeftBytes); counts and places are in range as there are at most 64
--- definitions (`definitions-short`; `encoded` of Encoded in `store_laws`).
+-- what `destroyed` leaves (`definitions_laid` of LeftBytes); counts and places are in range as there are at most 64
+-- definitions (`definitions_short`; `encoded` of Encoded in `store_laws`).
 use Rattle.definition_removal.proofs.LeftBytes.{definitions_laid, definitions_short}
 use Rattle.store_laws.proofs.Encoded.{encoded}
 use lib.ListN.{length, length-take, length-drop}

@@ -1,6 +1,6 @@
 -- `definition_removal::put_destroyed` meets its contract: the header and the four bodies that are left, laid one after
--- the other, are the store without definition i (`destroyed-laid` of LeftBytes); the places are bounded by the ceilings
--- (`after-header`, `after-definitions`, `after-particles`, `after-attributes`).
+-- the other, are the store without definition i (`destroyed_laid` of LeftBytes); the places are bounded by the ceilings
+-- (`after_header`, `after_definitions`, `after_particles`, `after_attributes`).
 use native.Mathlib.Omega.{arith}
 use Rattle.definition_removal.proofs.LeftBytes.{destroyed_laid, after_header, after_definitions, after_particles, after_attributes}
 use borrow.Author.Rules.{rules}

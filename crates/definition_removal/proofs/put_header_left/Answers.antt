@@ -1,5 +1,5 @@
 -- `definition_removal::put_header_left` meets its contract: the three counts are those of `destroyed`, so the header
--- written with them is `headerLeft` (`header-left` of Left); that of the definitions is in range by `encoded` of
+-- written with them is `header_left` (`header_left_lem` of Left); that of the definitions is in range by `encoded` of
 -- Encoded in `store_laws`, the others by their contracts.
 use Rattle.definition_removal.proofs.Left.{header_left_lem}
 use Rattle.store_laws.proofs.Encoded.{encoded}

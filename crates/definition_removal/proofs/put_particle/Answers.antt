@@ -1,5 +1,5 @@
 -- `definition_removal::put_particle` meets its contract: the record is written with the index that `moved_member` gives
--- for the index that is read, which is `particleRecord` (`particle-laid` of Moving).
+-- for the index that is read, which is `particle_record` (`particle_laid` of Moving).
 use Rattle.definition_removal.proofs.Moving.{particle_laid}
 use Rattle.definition_removal.specs.Bodies.{lowered}
 use Prim.Native.Nat.{suc}

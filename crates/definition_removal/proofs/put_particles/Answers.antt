@@ -1,6 +1,6 @@
 -- `definition_removal::put_particles` meets its contract: the loop's invariant holds at first (`going_start` of Again)
 -- and after each particle (`going_on`), and where none is left all are written (`going_end`); the length of a record is
--- bounded (`particle-short`), so that the places are in range.
+-- bounded (`particle_short`), so that the places are in range.
 use Rattle.definition_removal.proofs.Again.{Going, going_start, going_on, going_end, particle_short}
 use Rattle.definition_removal.specs.Bodies.{lowered, particle_record}
 use Rattle.rules.specs.Layout.{particle_size}

@@ -1,6 +1,6 @@
 -- `definition_removal::put_particles_left` meets its contract: the particles before the model of definition i and those
--- after it are what `destroyed` leaves (`models-laid` of LeftBytes); counts and places are in range by `encoded` of
--- Encoded in `store_laws` and by the length of a record (`records-short`, `particle-short` of Again).
+-- after it are what `destroyed` leaves (`models_laid` of LeftBytes); counts and places are in range by `encoded` of
+-- Encoded in `store_laws` and by the length of a record (`records_short`, `particle_short` of Again).
 use Rattle.definition_removal.proofs.LeftBytes.{models_laid}
 use Rattle.definition_removal.proofs.Again.{records_short, particle_short}
 use Rattle.store_laws.proofs.Encoded.{encoded}

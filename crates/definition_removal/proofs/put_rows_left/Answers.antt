@@ -1,6 +1,6 @@
 -- `definition_removal::put_rows_left` meets its contract: the rows that `walk_rows` writes by the plan `shifting` are
--- what `destroyed` leaves (`rows-laid` of LeftBytes); the walk may be made as the plan's numbers are small (`sized` of
--- KeptRows) and the empty text is a value (`none-value` of WellFormedLaws in `rules`).
+-- what `destroyed` leaves (`rows_laid` of LeftBytes); the walk may be made as the plan's numbers are small (`sized` of
+-- KeptRows) and the empty text is a value (`none_value` of WellFormedLaws in `rules`).
 use Rattle.layout.specs.Bodies.{width_of}
 use Rattle.definition_removal.proofs.KeptRows.{sized}
 use native.Mathlib.Omega.{arith}

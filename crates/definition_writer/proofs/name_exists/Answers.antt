@@ -1,6 +1,6 @@
--- `definition_writer::name_exists` meets its contract: if record i has the name (`record-named` of Naming), the answer
--- is true (`searching-hit` of Searching), else the records after it decide (`searching-start`, `searching-on`), and
--- past the last it is false (`searching-end`); the records are the store's (`definitions-named`).
+-- `definition_writer::name_exists` meets its contract: if record i has the name (`record_named` of Naming), the answer
+-- is true (`searching_hit` of Searching), else the records after it decide (`searching_start`, `searching_on`), and
+-- past the last it is false (`searching_end`); the records are the store's (`definitions_named`).
 use Prim.Native.Nat.{◌-◌}
 use native.Mathlib.Omega.{arith}
 use Rattle.rules.specs.Layout.{definition_size}

@@ -1,6 +1,6 @@
--- `depth_check::is_within` meets its contract: each arm has the law of its edit in Ceiling (`inserted-within`,
--- `removed-within`, `requantified-within`, `grouped-within`, `flattened-within`). The particles from n on are within
--- the ceiling, as `moved_within` requires (`within-drop`).
+-- `depth_check::is_within` meets its contract: each arm has the law of its edit in Ceiling (`inserted_within`,
+-- `removed_within`, `requantified_within`, `grouped_within`, `flattened_within`). The particles from n on are within
+-- the ceiling, as `moved_within` requires (`within_drop`).
 use mathlib.Core.Path.{ap, ◌∙◌}
 use mathlib.Core.Bool.{Bool, true, ◌&&◌}
 use lib.Dec.{leb}

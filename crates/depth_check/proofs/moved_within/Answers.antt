@@ -1,5 +1,5 @@
--- `depth_check::moved_within` meets its contract: the answer is true where no further particle moves (`deep-stop` of
--- Ceiling), false where one of depth 4 or more moves (`deep-over`), and true where no particle is left (`deep-done`).
+-- `depth_check::moved_within` meets its contract: the answer is true where no further particle moves (`deep_stop` of
+-- Ceiling), false where one of depth 4 or more moves (`deep_over`), and true where no particle is left (`deep_done`).
 -- Any other particle keeps the invariant (`deep_step`).
 use mathlib.Core.Path.{sym, ap}
 use mathlib.Core.Bool.{true}

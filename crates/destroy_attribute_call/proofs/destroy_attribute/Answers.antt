@@ -1,6 +1,6 @@
 -- `destroy_attribute_call::destroy_attribute` meets its contract: a store that does not pass is refused with 1 (`bad`
--- of CallLaws), a condition that holds gives its number (`turned-away`); else `write_dropped` may be called
--- (`droppable` of Laws), and it answers the outcome (`made` of Calls), as `dropped` is what is left (`destroy-leaves`).
+-- of CallLaws), a condition that holds gives its number (`turned_away`); else `write_dropped` may be called
+-- (`droppable` of Laws), and it answers the outcome (`made` of Calls), as `dropped` is what is left (`destroy_leaves`).
 use mathlib.Core.Path.{ap}
 use mathlib.Core.Bool.{not}
 use mathlib.Core.List.{[]}

@@ -1,6 +1,6 @@
--- `destroy_attribute_call::write_dropped` meets its contract: what `put_dropped` lays fits its buffer (`dropped-fits`,
--- `dropped-long` of Laws), `edit_form` may be called (`dropped-asks`), and its answer is that for `dropped`
--- (`dropped-answers`); there is an attribute, so the count less 1 is in range (`number-of-attributes` of CountLaws).
+-- `destroy_attribute_call::write_dropped` meets its contract: what `put_dropped` lays fits its buffer (`dropped_fits`,
+-- `dropped_long` of Laws), `edit_form` may be called (`dropped_asks`), and its answer is that for `dropped`
+-- (`dropped_answers`); there is an attribute, so the count less 1 is in range (`number_of_attributes` of CountLaws).
 use native.Mathlib.Omega.{arith}
 use lib.ListN.{length}
 use Rattle.attribute_form.proofs.CountLaws.{number_of_attributes}

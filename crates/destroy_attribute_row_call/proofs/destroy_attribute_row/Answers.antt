@@ -1,6 +1,6 @@
 -- `destroy_attribute_row_call::destroy_attribute_row` meets its contract: the call is refused on a bad store and by a
--- condition (`bad`, `turned-away` of CallLaws). Else what `edit` requires holds (`takes-asks` of Calls), and the plan
--- does what the change does (`destroy-attribute-row-planned` of CallsPlanned, `made-planned` of Calls).
+-- condition (`bad`, `turned_away` of CallLaws). Else what `edit` requires holds (`takes_asks` of Calls), and the plan
+-- does what the change does (`destroy_attribute_row_planned` of CallsPlanned, `made_planned` of Calls).
 use mathlib.Core.Path.{ap}
 use mathlib.Core.Bool.{not}
 use borrow.Author.Rules.{rules}

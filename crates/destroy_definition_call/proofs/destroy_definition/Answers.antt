@@ -1,6 +1,6 @@
 -- `destroy_definition_call::destroy_definition` meets its contract: the call is refused on a bad store, by a condition
--- (`bad`, `turned-away` of CallLaws) and by a limit (`answers-limit` of Limits). Else the store is written
--- (`answers-all`), and its bodies are those that the change leaves (`flat-after-destroy` of DestroyCall).
+-- (`bad`, `turned_away` of CallLaws) and by a limit (`answers_limit` of Limits). Else the store is written
+-- (`answers_all`), and its bodies are those that the change leaves (`flat_after_destroy` of DestroyCall).
 use mathlib.Core.Bool.{not}
 use Rattle.destroy_definition_call.proofs.DestroyCall.{flat_after_destroy}
 use Rattle.definition_refusals.proofs.DestroyConditions.{stands}

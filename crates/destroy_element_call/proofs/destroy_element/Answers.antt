@@ -1,6 +1,6 @@
 -- `destroy_element_call::destroy_element` meets its contract: the returns are for a bad store (`bad` of CallLaws), a
--- condition (`turned-away`) and the answer of `edit` (`made-planned` of Calls, `destroy-element-planned` of
--- CallsPlanned); what `edit` requires is `takes-asks` of Calls.
+-- condition (`turned_away`) and the answer of `edit` (`made_planned` of Calls, `destroy_element_planned` of
+-- CallsPlanned); what `edit` requires is `takes_asks` of Calls.
 use mathlib.Core.Path.{ap}
 use mathlib.Core.Bool.{not}
 use borrow.Author.Rules.{rules}

@@ -1,6 +1,6 @@
 -- `document_call::add_document` meets its contract: the returns are for a bad store (`bad` of CallLaws), a condition
--- (`turned-away`) and the answer of `edit` (`made-planned` of Calls, `add-document-planned` of CallsPlanned); what
--- `edit` requires is `add-document-asks` of Laws.
+-- (`turned_away`) and the answer of `edit` (`made_planned` of Calls, `add_document_planned` of CallsPlanned); what
+-- `edit` requires is `add_document_asks` of Laws.
 use mathlib.Core.Path.{ap}
 use mathlib.Core.Bool.{not}
 use borrow.Author.Rules.{rules}

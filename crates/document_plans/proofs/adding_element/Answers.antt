@@ -1,4 +1,4 @@
--- `document_plans::adding_element` meets its contract: the plan is that of `filling_plan`, with `childSerial` put in
+-- `document_plans::adding_element` meets its contract: the plan is that of `filling_plan`, with `child_serial` put in
 -- for what `child_serial` gave.
 use mathlib.Core.Path.{ap, ◌∙◌}
 use Prim.Native.Nat.{ℕ}

@@ -1,6 +1,6 @@
 -- `document_plans::attribute_serial` meets its contract: as neither refusal 6 nor 7 applies, the element has a row
 -- (`there` of RowFacts) and the attribute is of its definition (`same_row` of AttributeRefusals), so that the serial
--- read right below that row is `attributeSerial` (`serial-is`).
+-- read right below that row is `attribute_serial` (`serial_is`).
 use mathlib.Core.Path.{refl}
 use Rattle.store_check.proofs.StoreFacts.{Whole, whole}
 use Rattle.document_rows.proofs.ElementFacts.{element_there}

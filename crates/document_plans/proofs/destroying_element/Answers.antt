@@ -1,5 +1,5 @@
 -- `document_plans::destroying_element` meets its contract: the plan is that of `taking_plan`, which is
--- `destroyElementPlan`.
+-- `destroy_element_plan`.
 use borrow.Author.Rules.{rules}
 use Rattle.document_plans.proofs.destroying_element.Goals as goal
 

@@ -1,5 +1,5 @@
 -- `document_plans::setting_attribute` meets its contract: the plan is that of `set_attribute_plan`, with
--- `attributeSerial` put in for what `attribute_serial` gave.
+-- `attribute_serial` put in for what `attribute_serial` gave.
 use mathlib.Core.Path.{ap, ◌∙◌}
 use Prim.Native.Nat.{ℕ}
 use Rattle.plans.specs.CallPlans.{set_attribute_plan}

@@ -1,4 +1,4 @@
--- `document_plans::setting_text` meets its contract: the plan is that of `setting_plan`, with `textSerial` put in
+-- `document_plans::setting_text` meets its contract: the plan is that of `setting_plan`, with `text_serial` put in
 -- for what `text_serial` gave.
 use mathlib.Core.Path.{ap, ◌∙◌}
 use Prim.Native.Nat.{ℕ}

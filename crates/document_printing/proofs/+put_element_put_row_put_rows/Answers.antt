@@ -1,10 +1,10 @@
 -- `document_printing::put_element`, `document_printing::put_row` and `document_printing::put_rows` meet their
--- contracts: what `put_element` writes is the text of the rows below, enclosed in the tags (`element-enclosed` of
--- RowLaws). The returns of `put_row` are for an attribute (`attribute-stepped`), an element (`row-element-stepped`) and
--- a text (`text-stepped`). The places are in range as the end of a start tag and a row are short (`end_short`,
--- `row-short`). In `put_rows` a deeper row is passed (`walk-deeper` of WalkLaws in `printing_parts`), one less deep or
--- the end of the rows ends the text (`walk-stops`, `walk_ends`), and one of this depth is written (`walk_here`, with
--- `rows-tree` of RowTexts). Three times the number of rows left, plus 1 for `put_row` and 2 for `put_rows`, falls with
+-- contracts: what `put_element` writes is the text of the rows below, enclosed in the tags (`element_enclosed` of
+-- RowLaws). The returns of `put_row` are for an attribute (`attribute_stepped`), an element (`row_element_stepped`) and
+-- a text (`text_stepped`). The places are in range as the end of a start tag and a row are short (`end_short`,
+-- `row_short`). In `put_rows` a deeper row is passed (`walk_deeper` of WalkLaws in `printing_parts`), one less deep or
+-- the end of the rows ends the text (`walk_stops`, `walk_ends`), and one of this depth is written (`walk_here`, with
+-- `rows_tree` of RowTexts). Three times the number of rows left, plus 1 for `put_row` and 2 for `put_rows`, falls with
 -- each call.
 use borrow.Author.Rules.{rules}
 use mathlib.Core.Path.{◌≡◌, ap, ◌∙◌}

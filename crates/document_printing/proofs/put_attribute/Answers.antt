@@ -1,5 +1,5 @@
 -- `document_printing::put_attribute` meets its contract: the five texts that are laid one after the other are
--- `attributeText` (`laid_then` of Writers), and an escaped value is at most six times as long (`escape-length` of
+-- `attribute_text` (`laid_then` of Writers), and an escaped value is at most six times as long (`escape_length` of
 -- escaping's Laws), so that the last byte's place is in range.
 use native.Mathlib.Omega.{arith}
 use Rattle.codec.proofs.Writers.{laid_none, laid_then}

@@ -1,6 +1,6 @@
--- `document_printing::put_documents` meets its contract: a deeper row is passed (`walk-deeper` of WalkLaws in
--- `printing_parts`), past the last row all documents are written (`walk-all`), and a row of depth 0 is a document,
--- whose line is written (`walk_here`, with `documents-step` of RowLaws).
+-- `document_printing::put_documents` meets its contract: a deeper row is passed (`walk_deeper` of WalkLaws in
+-- `printing_parts`), past the last row all documents are written (`walk_all`), and a row of depth 0 is a document,
+-- whose line is written (`walk_here`, with `documents_step` of RowLaws).
 use borrow.Author.Rules.{rules}
 use mathlib.Core.Path.{◌≡◌, sym, ap, ◌∙◌}
 use mathlib.Core.Bool.{Bool, true}

@@ -1,5 +1,5 @@
--- `document_printing::put_end` meets its contract: the two cases of `opened` are the two clauses of `endText`, the byte
--- that `put_u8` lays or no byte (`laid_none` of Writers).
+-- `document_printing::put_end` meets its contract: the two cases of `opened` are the two clauses of `end_text`, the
+-- byte that `put_u8` lays or no byte (`laid_none` of Writers).
 use mathlib.Core.Path.{ap}
 use Rattle.codec.proofs.Writers.{laid_as, laid_none}
 use Rattle.document_printing.specs.Documents.{end_text}

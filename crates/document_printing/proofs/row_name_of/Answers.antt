@@ -1,5 +1,5 @@
--- `document_printing::row_name_of` meets its contract: the returns are the clauses of `rowName` for sort 1, for sort 2
--- and for any other sort, which is that of a text (`sort-text` of RowLaws).
+-- `document_printing::row_name_of` meets its contract: the returns are the clauses of `row_name` for sort 1, for sort 2
+-- and for any other sort, which is that of a text (`sort_text` of RowLaws).
 use mathlib.Core.Path.{sym, ap, ◌∙◌}
 use Prim.Native.Nat.{ℕ}
 use native.Mathlib.Omega.{arith}

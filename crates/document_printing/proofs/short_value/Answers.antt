@@ -1,5 +1,5 @@
 -- `document_printing::short_value` meets its contract: `layout::row_value` reads the value, and it is no longer than
--- its row (`row-value-short` of LayoutLaws), so at most 300 bytes.
+-- its row (`row_value_short` of LayoutLaws), so at most 300 bytes.
 use mathlib.Core.Path.{sym, subst}
 use mathlib.Core.List.{List}
 use Prim.Native.Nat.{ℕ, ◌≤◌}

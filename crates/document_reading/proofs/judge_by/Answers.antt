@@ -1,8 +1,8 @@
--- `document_reading::judge_by` meets its contract: the invariant holds at first (`judging-start` of LoopLaws); rows
--- that are not exact or too many give the verdict (`judging-over`), and so do rows that may not come
--- (`judging-refused`); any others keep the invariant (`judging-on`) and make the text shorter; and at the end of the
--- text `walk_ends` gives the verdict (`judging-ended`). What was put is said at the width that the form's bytes say
--- (`put-at`), and what was walked is said of the rows that were put (`batch-walked`).
+-- `document_reading::judge_by` meets its contract: the invariant holds at first (`judging_start` of LoopLaws); rows
+-- that are not exact or too many give the verdict (`judging_over`), and so do rows that may not come
+-- (`judging_refused`); any others keep the invariant (`judging_on`) and make the text shorter; and at the end of the
+-- text `walk_ends` gives the verdict (`judging_ended`). What was put is said at the width that the form's bytes say
+-- (`put_at_lem`), and what was walked is said of the rows that were put (`batch_walked`).
 use Prim.Native.Nat.{ℕ}
 use mathlib.Core.Path.{◌≡◌, refl, ap, ◌∙◌}
 use native.Mathlib.Omega.{arith}

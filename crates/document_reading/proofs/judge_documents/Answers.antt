@@ -1,5 +1,5 @@
 -- `document_reading::judge_documents` meets its contract: a form that passes has no more than the table holds
--- (`form-few` of FormLaws).
+-- (`form_few` of FormLaws).
 use Prim.Native.Nat.{ℕ}
 use native.Mathlib.Omega.{arith}
 use lib.ListN.{length-replicate}

@@ -1,5 +1,5 @@
 -- `document_refusals::add_document_refusal` meets its contract: the tests of the text and of the definition's index
--- decide the two conditions of `addDocument` in their order (`document-3`, `document-6`, `document-0` of RefusalLaws).
+-- decide the two conditions of `add_document` in their order (`document_3`, `document_6`, `document_0` of RefusalLaws).
 use mathlib.Core.Path.{ap}
 use mathlib.Core.Bool.{not}
 use native.Mathlib.Omega.{arith}

@@ -1,6 +1,6 @@
 -- `document_refusals::add_element_refusal` meets its contract: each return gives the number of the first condition of
--- change 12 that holds, those before it not holding: 3 or 6 (`add-early`), 7 (`add-7`), 8 (`add-8`), 15 where the
--- parent is not COMPLEX or its children would not fit (`add-15`), else 0 (`add-0`).
+-- change 12 that holds, those before it not holding: 3 or 6 (`add_early`), 7 (`add_7`), 8 (`add_8`), 15 where the
+-- parent is not COMPLEX or its children would not fit (`add_15`), else 0 (`add_0`).
 use mathlib.Core.Bool.{not}
 use mathlib.Core.Path.{refl, ap, ◌∙◌}
 use native.Mathlib.Omega.{arith}

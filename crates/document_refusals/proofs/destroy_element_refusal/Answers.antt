@@ -1,6 +1,6 @@
 -- `document_refusals::destroy_element_refusal` meets its contract by a law of ElementRefusals for each return: there is
--- no such element (`destroy-7`), it has no parent (`destroy-root`), or the parent's model does not take the other
--- children (`destroy-15`) or does (`destroy-0`).
+-- no such element (`destroy_7`), it has no parent (`destroy_root`), or the parent's model does not take the other
+-- children (`destroy_15`) or does (`destroy_0`).
 use mathlib.Core.Path.{ap}
 use mathlib.Core.Bool.{not}
 use native.Mathlib.Omega.{arith}

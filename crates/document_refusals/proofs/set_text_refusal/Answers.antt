@@ -1,5 +1,5 @@
 -- `document_refusals::set_text_refusal` meets its contract: the tests of the text, of the element's row and of its kind
--- decide the three conditions of `setText` in their order (`text-3`, `text-7`, `text-9`, `text-0` of RefusalLaws).
+-- decide the three conditions of `set_text` in their order (`text_3`, `text_7`, `text_9`, `text_0` of RefusalLaws).
 use mathlib.Core.Path.{ap}
 use mathlib.Core.Bool.{not}
 use native.Mathlib.Omega.{arith}

@@ -1,5 +1,5 @@
 -- `document_row_writer::put_documents` meets its contract: up to a limit that is past the last row, all rows are
--- written (`documents-put` of PutLaws).
+-- written (`documents_put` of PutLaws).
 use Rattle.document_row_writer.proofs.PutLaws.{documents_put}
 use borrow.Author.Rules.{rules}
 use Rattle.document_row_writer.proofs.put_documents.Goals as goal

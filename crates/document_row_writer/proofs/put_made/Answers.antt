@@ -1,4 +1,4 @@
--- `document_row_writer::put_made` meets its contract, by the case split on the sort (`puts_none`, `puts-row` of
+-- `document_row_writer::put_made` meets its contract, by the case split on the sort (`puts_none`, `puts_row` of
 -- PutLaws).
 use Rattle.document_row_writer.proofs.PutLaws.{puts_none, puts_row}
 use borrow.Author.Rules.{rules}

@@ -1,6 +1,6 @@
 -- `document_row_writer::put_rows` meets its contract: nothing is read at first (`part_none` of PutLaws), each token is
--- read after those before it (`putting-on`) or there are no rows (`putting-refused`), and the loop ends at the end of
--- the text or at the limit (`putting-ended`).
+-- read after those before it (`putting_on`) or there are no rows (`putting_refused`), and the loop ends at the end of
+-- the text or at the limit (`putting_ended`).
 use Prim.Native.Nat.{ℕ, ◌-◌}
 use mathlib.Core.Path.{◌≡◌, refl, ap, ◌∙◌}
 use native.Mathlib.Omega.{arith}

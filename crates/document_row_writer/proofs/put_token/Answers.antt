@@ -1,5 +1,5 @@
--- `document_row_writer::put_token` meets its contract: a token that is not exact is refused (`token-refused` of
--- PutLaws), any other is read (`token-put`). Its numbers are small (`index-small`, `value-fits`, `opens-more` of
+-- `document_row_writer::put_token` meets its contract: a token that is not exact is refused (`token_refused` of
+-- PutLaws), any other is read (`token_put`). Its numbers are small (`index_small`, `value_fits_lem`, `opens_more` of
 -- AfterLaws).
 use mathlib.Core.Path.{refl, sym, ◌∙◌}
 use native.Mathlib.Omega.{arith}

@@ -1,5 +1,5 @@
 -- `document_rows::attribute_row_serial` meets its contract: the reads of the store's parts make the answer of
--- `indexed_serial` the store's (`indexed-read` of ReaderLaws).
+-- `indexed_serial` the store's (`indexed_read` of ReaderLaws).
 use Rattle.document_rows.proofs.ReaderLaws.{indexed_read}
 use borrow.Author.Rules.{rules}
 use Rattle.document_rows.proofs.attribute_row_serial.Goals as goal

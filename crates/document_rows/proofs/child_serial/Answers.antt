@@ -1,5 +1,5 @@
 -- `document_rows::child_serial` meets its contract: the element is in the store, so that its row is found (`there`
--- of RowFacts), and the serial that `nth_at` reads right below that row is the store's (`child-serial`).
+-- of RowFacts), and the serial that `nth_at` reads right below that row is the store's (`child_serial_lem`).
 use Rattle.store_check.proofs.StoreFacts.{Whole, whole}
 use Rattle.document_rows.proofs.ElementFacts.{element_there}
 use Rattle.document_rows.proofs.RowFacts.{row_of, there, child_serial_lem}

@@ -1,5 +1,5 @@
 -- `document_rows::element_at` meets its contract: the first row for which `is_element` is true is the one asked for
--- (`seek_hit` of SuffixLaws), any before it is passed (`seek-past`), and past the last row there is none (`seek-none`).
+-- (`seek_hit` of SuffixLaws), any before it is passed (`seek_past`), and past the last row there is none (`seek_none`).
 use borrow.Author.Rules.{rules}
 use mathlib.Core.Path.{sym, ap, ◌∙◌}
 use mathlib.Core.List.{List}

@@ -1,5 +1,5 @@
 -- `document_rows::ends` meets its contract: for `last` 0, and for `last` from 1 to 64, a set of the model's line
--- has what `finishes` says (`end_none`, `end-child` of StepLaws), and above 64 the return is the answer of
+-- has what `finishes` says (`end_none`, `end_child` of StepLaws), and above 64 the return is the answer of
 -- `automaton::finishes`.
 use native.Mathlib.Omega.{arith}
 use Rattle.model.specs.Members.{all_members}

@@ -1,5 +1,5 @@
 -- `document_rows::find_element` meets its contract: the reads of the store's parts make the row that `element_at`
--- finds the store's (`element-at-is` of ElementFacts), and a store that passes has at most 4096 rows (`whole` of
+-- finds the store's (`element_at_is` of ElementFacts), and a store that passes has at most 4096 rows (`whole` of
 -- StoreFacts).
 use native.Mathlib.Omega.{arith}
 use Rattle.store_check.proofs.StoreFacts.{whole}

@@ -1,5 +1,5 @@
 -- `document_rows::find_parent` meets its contract: the reads of the store's parts make the row that `parent_at`
--- finds the store's (`parent-at-is` of ElementFacts), and a store that passes has at most 4096 rows (`whole` of
+-- finds the store's (`parent_at_is` of ElementFacts), and a store that passes has at most 4096 rows (`whole` of
 -- StoreFacts).
 use native.Mathlib.Omega.{arith}
 use Rattle.store_check.proofs.StoreFacts.{whole}

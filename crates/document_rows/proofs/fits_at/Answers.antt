@@ -1,4 +1,4 @@
--- `document_rows::fits_at` meets its contract: the answer of `children_fit` is `fitsAt`, as the parts and the model
+-- `document_rows::fits_at` meets its contract: the answer of `children_fit` is `fits_at`, as the parts and the model
 -- that are read are the store's (`fits_read` of ReaderLaws).
 use Rattle.document_rows.proofs.ReaderLaws.{fits_read}
 use borrow.Author.Rules.{rules}

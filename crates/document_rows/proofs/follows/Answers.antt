@@ -1,5 +1,5 @@
 -- `document_rows::follows` meets its contract: for `last` up to 64 and y below 64 a set of the model's line has
--- what `steps` says (`follow-found` of StepLaws), and else the return is the answer of `automaton::steps`.
+-- what `steps` says (`follow_found` of StepLaws), and else the return is the answer of `automaton::steps`.
 use native.Mathlib.Omega.{arith}
 use borrow.Author.Tests.{leb-true, ltb-true}
 use lib.Dec.{leb, ltb}

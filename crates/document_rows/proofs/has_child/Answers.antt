@@ -1,6 +1,6 @@
--- `document_rows::has_child` meets its contract: `next_child` gives one child after the other (`look-start`,
--- `look-past` of SuffixLaws), and with none left the answer is false (`look_none`). One that is the element makes it
--- true (`any-this` of SerialLaws), any other leaves it to those after it (`any_next`).
+-- `document_rows::has_child` meets its contract: `next_child` gives one child after the other (`look_start`,
+-- `look_past` of SuffixLaws), and with none left the answer is false (`look_none`). One that is the element makes it
+-- true (`any_this` of SerialLaws), any other leaves it to those after it (`any_next`).
 use borrow.Author.Rules.{rules}
 use mathlib.Core.Path.{sym, ap, ◌∙◌}
 use mathlib.Core.List.{List}

@@ -1,5 +1,5 @@
 -- `document_rows::has_place` meets its contract: a row has at least 0 children (`place_none` of ReaderLaws), and it
--- has at least `child` of them where the serial of number `child - 1` is not 0 (`place-some`).
+-- has at least `child` of them where the serial of number `child - 1` is not 0 (`place_some`).
 use Rattle.document_rows.proofs.ReaderLaws.{place_none, place_some}
 use borrow.Author.Rules.{rules}
 use Rattle.document_rows.proofs.has_place.Goals as goal

@@ -1,6 +1,6 @@
--- `document_rows::indexed_serial` meets its contract: `next_child` gives one child after the other (`look-start`,
--- `look-past` of SuffixLaws), and with none left the answer is 0 (`look_none`). One with the index gives its serial
--- (`indexed-this` of SerialLaws), any other leaves the answer to those after it (`indexed-next`).
+-- `document_rows::indexed_serial` meets its contract: `next_child` gives one child after the other (`look_start`,
+-- `look_past` of SuffixLaws), and with none left the answer is 0 (`look_none`). One with the index gives its serial
+-- (`indexed_this` of SerialLaws), any other leaves the answer to those after it (`indexed_next`).
 use borrow.Author.Rules.{rules}
 use mathlib.Core.Path.{sym, ap, ◌∙◌}
 use mathlib.Core.List.{List}

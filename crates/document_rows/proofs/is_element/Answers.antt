@@ -1,5 +1,5 @@
 -- `document_rows::is_element` meets its contract: the sort and the serial that are read are those that
--- `elementRowWith` tests.
+-- `element_row_with` tests.
 use mathlib.Core.Path.{ap₂}
 use mathlib.Core.Bool.{◌&&◌}
 use Prim.Native.Nat.{ℕ}

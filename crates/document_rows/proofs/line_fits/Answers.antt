@@ -1,6 +1,6 @@
--- `document_rows::line_fits` meets its contract: `next_child` gives one child after the other (`look-start`,
--- `look-past` of SuffixLaws). If it or the new one before it may not follow, the answer is false (`word-fails` of
--- StepLaws). Else those after it decide (`word-past`), and with none left a last new one and the end (`word-ends`).
+-- `document_rows::line_fits` meets its contract: `next_child` gives one child after the other (`look_start`,
+-- `look_past` of SuffixLaws). If it or the new one before it may not follow, the answer is false (`word_fails` of
+-- StepLaws). Else those after it decide (`word_past`), and with none left a last new one and the end (`word_ends`).
 use mathlib.Core.Bool.{not}
 use borrow.Author.Rules.{rules}
 use mathlib.Core.Path.{◌∙◌, ap}

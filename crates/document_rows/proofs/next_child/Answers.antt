@@ -1,6 +1,6 @@
 -- `document_rows::next_child` meets its contract: a row less deep ends the search (`step_less` of SuffixLaws), one
--- of the depth and the sort is the next child (`step-hit`), any other is passed (`step_past`), and past the last row
--- there is none (`step-none`). The row where the search ends is the `Child` asked for (`child-of`).
+-- of the depth and the sort is the next child (`step_hit`), any other is passed (`step_past`), and past the last row
+-- there is none (`step_none`). The row where the search ends is the `Child` asked for (`child_of`).
 use borrow.Author.Rules.{rules}
 use mathlib.Core.Path.{◌≡◌, sym, ap, ap₂, ◌∙◌}
 use mathlib.Core.Bool.{◌&&◌}

@@ -1,6 +1,6 @@
--- `document_rows::nth_serial` meets its contract: `next_child` gives one child after the other (`look-start`,
--- `look-past` of SuffixLaws), and each step passes one (`nth-next` of SerialLaws). Where none is left, in the loop or
--- after it, the answer is 0 (`nth-nil`); else row i is the child asked for, and the answer is its serial (`nth-this`).
+-- `document_rows::nth_serial` meets its contract: `next_child` gives one child after the other (`look_start`,
+-- `look_past` of SuffixLaws), and each step passes one (`nth_next` of SerialLaws). Where none is left, in the loop or
+-- after it, the answer is 0 (`nth_nil`); else row i is the child asked for, and the answer is its serial (`nth_this`).
 use borrow.Author.Rules.{rules}
 use mathlib.Core.Path.{sym, ap, ◌∙◌}
 use mathlib.Core.List.{List}

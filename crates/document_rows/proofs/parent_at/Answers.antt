@@ -1,5 +1,5 @@
 -- `document_rows::parent_at` meets its contract: the first row for which `has_child` is true is the one asked for
--- (`seek_hit` of SuffixLaws), any before it is passed (`seek-past`), and past the last row there is none (`seek-none`).
+-- (`seek_hit` of SuffixLaws), any before it is passed (`seek_past`), and past the last row there is none (`seek_none`).
 -- The depth of the children is the row's, with `+ 1` for `suc` (`add-one` of native.Mathlib.Numerals).
 use borrow.Author.Rules.{rules}
 use mathlib.Core.Path.{◌≡◌, sym, ap, ◌∙◌}

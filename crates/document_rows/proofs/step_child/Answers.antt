@@ -1,5 +1,5 @@
 -- `document_rows::step_child` meets its contract: the child with serial `skip` gives no name to step over
--- (`kept-none` of StepLaws), and any other gives its index, which `follows` tests (`kept_step`).
+-- (`kept_none` of StepLaws), and any other gives its index, which `follows` tests (`kept_step`).
 use mathlib.Core.Path.{sym, ◌∙◌}
 use Rattle.rules.specs.Decode.{read_row}
 use Rattle.document_rows.proofs.StepLaws.{kept_step, kept_none}

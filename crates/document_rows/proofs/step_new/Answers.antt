@@ -1,5 +1,5 @@
 -- `document_rows::step_new` meets its contract: at place 1 there is one name to step over, which `follows` tests
--- (`new-step` of StepLaws), and at any other place there is none (`new_none`).
+-- (`new_step` of StepLaws), and at any other place there is none (`new_none`).
 use Rattle.document_rows.proofs.StepLaws.{new_step, new_none}
 use borrow.Author.Rules.{rules}
 use Rattle.document_rows.proofs.step_new.Goals as goal

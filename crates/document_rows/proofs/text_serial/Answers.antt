@@ -1,5 +1,5 @@
 -- `document_rows::text_serial` meets its contract: the element is in the store, so that its row is found (`there`
--- of RowFacts), and the serial that `nth_at` reads right below that row is the store's (`text-serial`).
+-- of RowFacts), and the serial that `nth_at` reads right below that row is the store's (`text_serial_lem`).
 use Rattle.store_check.proofs.StoreFacts.{Whole, whole}
 use Rattle.document_rows.proofs.ElementFacts.{element_there}
 use Rattle.document_rows.proofs.RowFacts.{row_of, there, text_serial_lem}

@@ -1,5 +1,5 @@
--- `document_tokens::attribute_place` meets its contract: the attribute that is looked for stands at i (`placing-hit` of
--- FormLaws), any other is passed (`placing-on`), and past the last nothing is left (`placing-end`).
+-- `document_tokens::attribute_place` meets its contract: the attribute that is looked for stands at i (`placing_hit` of
+-- FormLaws), any other is passed (`placing_on`), and past the last nothing is left (`placing_end`).
 use mathlib.Core.Path.{ap, ◌∙◌}
 use mathlib.Core.Bool.{◌&&◌}
 use mathlib.Core.List.{List}

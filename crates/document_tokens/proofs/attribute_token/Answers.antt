@@ -1,5 +1,5 @@
--- `document_tokens::attribute_token` meets its contract: what was read of it (`attribute-read` of TellLaws) says
--- whether it is exact (`attribute-none`) and what it is then (`attribute-told`), within the text (`attribute-room`).
+-- `document_tokens::attribute_token` meets its contract: what was read of it (`attribute_read_lem` of TellLaws) says
+-- whether it is exact (`attribute_none`) and what it is then (`attribute_told`), within the text (`attribute_room`).
 use mathlib.Core.Path.{refl, sym, ◌∙◌}
 use native.Mathlib.Omega.{arith}
 use borrow.Author.Tests.{not-true, not-false}

@@ -1,5 +1,5 @@
--- `document_tokens::element_token` meets its contract: what was read is the token (`element-told` of TellLaws), and its
--- size is not past the end of the text (`leading-short` of TokenLaws).
+-- `document_tokens::element_token` meets its contract: what was read is the token (`element_told` of TellLaws), and its
+-- size is not past the end of the text (`leading_short` of TokenLaws).
 use mathlib.Core.Path.{ap}
 use native.Mathlib.Omega.{arith}
 use lib.ListN.{length, length-drop}

@@ -1,6 +1,6 @@
 -- `document_tokens::end_token` meets its contract: the case split is on the parts of an end tag: without `</`
--- (`end-unbegun` of TellLaws) or without the name (`end-other`) it is not exact, else what follows decides
--- (`end-told`).
+-- (`end_unbegun` of TellLaws) or without the name (`end_other`) it is not exact, else what follows decides
+-- (`end_told`).
 use mathlib.Core.Path.{refl, sym, ap, ◌∙◌}
 use native.Mathlib.Omega.{arith}
 use borrow.Author.Tests.{not-true, not-false}

@@ -1,5 +1,5 @@
 -- `document_tokens::kind_of` meets its contract: the case split is on the count: from it on there is no definition
--- (`kind-none` of FormLaws), else the kind is that of record o (`kind-there`).
+-- (`kind_none` of FormLaws), else the kind is that of record o (`kind_there`).
 use mathlib.Core.Path.{sym, ap, ◌∙◌}
 use mathlib.Core.List.{List}
 use Prim.Native.Nat.{ℕ}

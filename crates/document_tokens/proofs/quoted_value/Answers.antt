@@ -1,4 +1,4 @@
--- `document_tokens::quoted_value` meets its contract: what was read is the value in quotes (`quote-told` of TellLaws).
+-- `document_tokens::quoted_value` meets its contract: what was read is the value in quotes (`quote_told` of TellLaws).
 use Rattle.document_tokens.proofs.TellLaws.{quote_told}
 use borrow.Author.Rules.{rules}
 use Rattle.document_tokens.proofs.quoted_value.Goals as goal

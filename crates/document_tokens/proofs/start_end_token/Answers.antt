@@ -1,4 +1,4 @@
--- `document_tokens::start_end_token` meets its contract: what is told is what `rowless_token` says (`tells-bare` of
+-- `document_tokens::start_end_token` meets its contract: what is told is what `rowless_token` says (`tells_bare` of
 -- TellLaws), and the test is that of the first byte.
 use mathlib.Core.Path.{refl, ap, ◌∙◌}
 use Prim.Native.Nat.{ℕ}

@@ -1,5 +1,5 @@
 -- `document_tokens::tag_token` meets its contract: the case split is on the first byte and the kind of the definition
--- (`tag-attribute`, `tag-text`, `tag-ends` of ChoiceLaws).
+-- (`tag_attribute`, `tag_text`, `tag_ends` of ChoiceLaws).
 use mathlib.Core.Path.{refl}
 use Rattle.document_tokens.specs.Tokens.{declared_in}
 use Rattle.document_tokens.proofs.TellLaws.{tells_as, tells_beside}

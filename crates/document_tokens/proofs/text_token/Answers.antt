@@ -1,5 +1,5 @@
--- `document_tokens::text_token` meets its contract: what was read is the token (`text-told` of TellLaws), and its size
--- is not past the end of the text (`leading-short` of TokenLaws).
+-- `document_tokens::text_token` meets its contract: what was read is the token (`text_told` of TellLaws), and its size
+-- is not past the end of the text (`leading_short` of TokenLaws).
 use mathlib.Core.Path.{ap}
 use native.Mathlib.Omega.{arith}
 use lib.ListN.{length, length-drop}

@@ -1,6 +1,6 @@
--- `document_tokens::token_at` meets its contract: the case split is that of the token (`begins-element`, `begins-deep`,
--- `goes-nowhere`, `goes_on`, `goes-to-end` of ChoiceLaws), by the definitions that are opened (`stack-size`,
--- `stack-none`, `stack_top`).
+-- `document_tokens::token_at` meets its contract: the case split is that of the token (`begins_element`, `begins_deep`,
+-- `goes_nowhere`, `goes_on`, `goes_to_end` of ChoiceLaws), by the definitions that are opened (`stack_size`,
+-- `stack_none`, `stack_top`).
 use mathlib.Core.Path.{refl, ap, ◌∙◌}
 use Prim.Native.Nat.{ℕ, ◌-◌}
 use native.Mathlib.Omega.{arith}

@@ -1,5 +1,5 @@
 -- `escaping::is_plain` meets its contract: of false nothing is promised. A byte that is none of the four keeps the
--- invariant (`plain-on` of Laws), and at the end no byte is left to escape (`plain_end`).
+-- invariant (`plain_on` of Laws), and at the end no byte is left to escape (`plain_end`).
 use mathlib.Core.Bool.{false≢true}
 use native.Mathlib.Omega.{arith}
 use Rattle.escaping.proofs.Laws.{plain_on, plain_end}

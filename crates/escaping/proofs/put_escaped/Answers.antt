@@ -1,6 +1,6 @@
 -- `escaping::put_escaped` meets its contract: a plain value is its own escape by the contract of `is_plain`, so that it
 -- is written as it is (`laid_as` of Writers). Else each byte that is written, escaped, keeps the invariant
--- (`escaping-on` of Laws), and at the end no byte is left to write (`escaping-done`).
+-- (`escaping_on` of Laws), and at the end no byte is left to write (`escaping_done`).
 use mathlib.Core.Path.{refl}
 use native.Mathlib.Omega.{arith}
 use Rattle.codec.proofs.Writers.{laid_as}

@@ -1,5 +1,5 @@
 -- `escaping::put_escaped_byte` meets its contract: each of the first four arms writes the escape of its byte, and the
--- last arm a byte that is none of the four and so its own escape (`escape-other` of Laws).
+-- last arm a byte that is none of the four and so its own escape (`escape_other` of Laws).
 use native.Mathlib.Omega.{arith}
 use mathlib.Core.Path.{ap}
 use Rattle.rules.specs.Print.{escape_byte}

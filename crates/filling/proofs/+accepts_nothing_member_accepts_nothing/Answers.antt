@@ -1,9 +1,9 @@
 -- `filling::accepts_nothing` and `filling::member_accepts_nothing` meet their contracts: a member is judged by its
--- quantifier (`absent-skips` of FillingLaws), as an element (`absent-element`), or as a LIST or CHOICE by its members
--- (`absent-list`, `absent-choice`). In `accepts_nothing` the invariant holds at first (`unsettled-starts`); a particle
--- that the group goes past is passed (`unsettled-past`), any other is a member (`unsettled-here`), which settles the
--- answer (`unsettled-by`) or leaves it to those after it (`unsettled-on`); a particle outside the group or the end of s
--- gives the answer of no members (`unsettled-over`, `unsettled-ends`). In a group there are fewer particles, so the
+-- quantifier (`absent_skips` of FillingLaws), as an element (`absent_element`), or as a LIST or CHOICE by its members
+-- (`absent_list`, `absent_choice`). In `accepts_nothing` the invariant holds at first (`unsettled_starts`); a particle
+-- that the group goes past is passed (`unsettled_past`), any other is a member (`unsettled_here`), which settles the
+-- answer (`unsettled_by`) or leaves it to those after it (`unsettled_on`); a particle outside the group or the end of s
+-- gives the answer of no members (`unsettled_over`, `unsettled_ends`). In a group there are fewer particles, so the
 -- cycle ends.
 use native.Mathlib.Omega.{arith}
 use borrow.Author.Rules.{rules}

@@ -1,14 +1,14 @@
 -- `filling::put_below`, `filling::put_definition`, `filling::put_group` and `filling::put_member` meet their contracts:
 -- each return has its law, of FillingLaws where no file is named. `put_below` writes nothing (`below_none`), the text
--- (`below-text`) or the filling of the model (`below-group`), which is empty where no element must be there
--- (`below-nothing`, `no-element-filled` of NeededLaws). `put_definition` writes nothing at height 0 (`definition-low`),
--- else its three parts (`definition-written`). `put_group` returns where no row may be written any more (`written-stop`
+-- (`below_text`) or the filling of the model (`below_group`), which is empty where no element must be there
+-- (`below_nothing`, `no_element_filled` of NeededLaws). `put_definition` writes nothing at height 0 (`definition_low`),
+-- else its three parts (`definition_written`). `put_group` returns where no row may be written any more (`written_stop`
 -- of WrittenLaws in `row_writer`), at a particle less deep (`rest_over`), after the first member of a CHOICE
--- (`rest-first`) and past the last particle (`rest-ends`); it goes on after a particle that is passed (`rest-past`) and
--- after a member of a LIST (`rest-on`). In `put_member` the particle may be absent (`member-skips`), is an element
--- (`member-element`), a group that fills with nothing (`member-empty`, `member-nothing`) or another group
--- (`member-group`). With each call falls the height or, at one height, the bytes of particles (`rank-height`,
--- `rank-part`, `rank-particles`).
+-- (`rest_first`) and past the last particle (`rest_ends`); it goes on after a particle that is passed (`rest_past`) and
+-- after a member of a LIST (`rest_on`). In `put_member` the particle may be absent (`member_skips`), is an element
+-- (`member_element`), a group that fills with nothing (`member_empty`, `member_nothing_lem`) or another group
+-- (`member_group`). With each call falls the height or, at one height, the bytes of particles (`rank_height`,
+-- `rank_part`, `rank_particles`).
 use mathlib.Core.Path.{refl, sym, ◌∙◌}
 use mathlib.Core.Logic.{⊎_elim}
 use mathlib.Core.Bool.{false}

@@ -1,5 +1,5 @@
 -- `filling::fills_nothing` meets its contract: a sequence fills as its members do, so that no test is needed
--- (`filled-list` of FillingLaws), and a choice fills with nothing where it accepts nothing (`filled-choice`).
+-- (`filled_list` of FillingLaws), and a choice fills with nothing where it accepts nothing (`filled_choice`).
 use Rattle.model.specs.Members.{members_from}
 use Rattle.filling.proofs.FillingLaws.{filled_list, filled_choice}
 use borrow.Author.Rules.{rules}

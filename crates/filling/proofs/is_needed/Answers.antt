@@ -1,5 +1,5 @@
 -- `filling::is_needed` meets its contract: an element, sort 0, must be there unless its quantifier lets it be absent
--- (`needed-element` of NeededLaws), and a group is no element (`needed-group`).
+-- (`needed_element` of NeededLaws), and a group is no element (`needed_group`).
 use native.Mathlib.Omega.{arith}
 use Rattle.filling.proofs.NeededLaws.{needed_element, needed_group}
 use borrow.Author.Rules.{rules}

@@ -1,5 +1,5 @@
 -- `filling::is_optional` meets its contract: `skips` is true of the quantifiers with the codes 1 and 2
--- (`optional-code`, `optional-code-2` of FillingLaws) and of no other (`needed-code`).
+-- (`optional_code`, `optional_code_2` of FillingLaws) and of no other (`needed_code`).
 use native.Mathlib.Omega.{arith}
 use Rattle.filling.proofs.FillingLaws.{optional_code, optional_code_2, needed_code}
 use borrow.Author.Rules.{rules}

@@ -1,5 +1,5 @@
 -- `filling::is_passed` meets its contract: the return is `passed` but for the answer of `is_left_out`, which by its
--- contract is `leftOut`.
+-- contract is `left_out`.
 use mathlib.Core.Path.{ap}
 use mathlib.Core.Bool.{Bool, ◌||◌}
 use lib.Dec.{ltb}

@@ -1,6 +1,6 @@
--- `filling::needs_no_element` meets its contract: a particle less deep than d ends the members (`no-element-over` of
--- NeededLaws), an element that must be there settles it (`no-element-stop`), and any other keeps the invariant
--- (`no-element-on`). Where no particle is left none must be there (`no-element-few`).
+-- `filling::needs_no_element` meets its contract: a particle less deep than d ends the members (`no_element_over` of
+-- NeededLaws), an element that must be there settles it (`no_element_stop`), and any other keeps the invariant
+-- (`no_element_on`). Where no particle is left none must be there (`no_element_few`).
 use mathlib.Core.Path.{◌≡◌, refl, sym, ◌∙◌}
 use native.Mathlib.Omega.{arith}
 use lib.ListN.{length}

@@ -1,5 +1,5 @@
--- `filling::put_any` meets its contract: in each case of `what` the rows that are written are those of `changeFilled`
--- (`nothing-filled`, `definition-filled`, `attribute-filled`, `particles-filled` of FillingLaws).
+-- `filling::put_any` meets its contract: in each case of `what` the rows that are written are those of `change_filled`
+-- (`nothing_filled`, `definition_filled_lem`, `attribute_filled`, `particles_filled` of FillingLaws).
 use native.Mathlib.Omega.{arith}
 use Rattle.filling.specs.Parts.{defs_in, parts_in, attrs_in, width_in, count_in, version_of_filling}
 use Rattle.filling.proofs.FillingLaws.{nothing_filled, definition_filled_lem, attribute_filled, particles_filled, filled_definition, filled_attribute, filled_particles}

@@ -1,6 +1,6 @@
 -- `filling::put_members` meets its contract: where `fills_nothing` is true the filling of the group is empty and
 -- nothing is written (`group_empty`, `none_written` of FillingLaws), else it is the one that `put_group` writes
--- (`group-full`, `same-written`).
+-- (`group_full`, `same_written`).
 use Rattle.filling.specs.Fillings.{group_filled}
 use Rattle.filling.specs.Parts.{defs_in, parts_in, attrs_in, width_in, count_in, version_of_filling, members_read_at}
 use Rattle.filling.proofs.FillingLaws.{none_written, same_written, group_empty, group_full}

@@ -1,6 +1,6 @@
--- `filling::put_required` meets its contract: the invariant holds before the first attribute (`required-none` of
--- FillingLaws) and after each, by the contract of `put_attribute` (`required-on`); past the last it is the contract.
--- What is written leaves the room that `put_attribute` requires (`written-room` of WrittenLaws in `row_writer`).
+-- `filling::put_required` meets its contract: the invariant holds before the first attribute (`required_none` of
+-- FillingLaws) and after each, by the contract of `put_attribute` (`required_on`); past the last it is the contract.
+-- What is written leaves the room that `put_attribute` requires (`written_room` of WrittenLaws in `row_writer`).
 use Prim.Native.Nat.{ℕ, ◌-◌}
 use native.Mathlib.Omega.{arith}
 use mathlib.Core.Path.{◌≡◌, ap}

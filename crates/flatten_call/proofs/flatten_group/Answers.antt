@@ -1,6 +1,6 @@
 -- `flatten_call::flatten_group` meets its contract: a store that does not pass is refused with 1 (`bad` of
--- CallLaws), a condition that holds gives its number (`turned-away`); else the edit fits its place (`flatten-fits`
--- of Laws; `asks` of Fits) and keeps all rows (`kept-answers` of Keeping, by `flatten-form`, `flatten-plan`).
+-- CallLaws), a condition that holds gives its number (`turned_away`); else the edit fits its place (`flatten_fits`
+-- of Laws; `asks` of Fits) and keeps all rows (`kept_answers` of Keeping, by `flatten_form`, `flatten_plan`).
 use mathlib.Core.Bool.{not}
 use mathlib.Core.Path.{sym, ◌∙◌, ap}
 use lib.ListN.{length}

@@ -1,6 +1,6 @@
 -- `form_front::front_of` meets its contract: where the text has no room the store is no front (`front_long` of
--- FrontLaws); else what `print_store` wrote is the text, and `starts_with` compares it (`front-tested`). A store that
--- passes has what `print_store` requires (`within-counts`).
+-- FrontLaws); else what `print_store` wrote is the text, and `starts_with` compares it (`front_tested`). A store that
+-- passes has what `print_store` requires (`within_counts`).
 use native.Mathlib.Omega.{arith}
 use Prim.Native.Nat.{ℕ}
 use lib.ListN.{length-replicate}

@@ -1,4 +1,4 @@
--- `form_index::kind_of` meets its contract: the kind read from record i is that of `definitionIn` (`kind-read` of
+-- `form_index::kind_of` meets its contract: the kind read from record i is that of `definition_in` (`kind_read` of
 -- ReadingLaws).
 use Rattle.form_index.proofs.ReadingLaws.{kind_read}
 use borrow.Author.Rules.{rules}

@@ -1,5 +1,5 @@
--- `form_index::model_length` meets its contract: the number read from record i is that of `definitionIn`
--- (`particles-read` of ReadingLaws), and it is below 4294967296 as a `u32`.
+-- `form_index::model_length` meets its contract: the number read from record i is that of `definition_in`
+-- (`particles_read_lem` of ReadingLaws), and it is below 4294967296 as a `u32`.
 use Rattle.form_index.proofs.ReadingLaws.{particles_read_lem}
 use native.Mathlib.Omega.{arith}
 use borrow.Author.Rules.{rules}

@@ -1,5 +1,5 @@
 -- `form_index::model_part` meets its contract: the window that leaves out the particles before definition i's and is as
--- long as its own is `modelPart` (`model-read` of ReadingLaws).
+-- long as its own is `model_part` (`model_read` of ReadingLaws).
 use mathlib.Core.Path.{◌∙◌}
 use Rattle.form_index.proofs.ReadingLaws.{model_read}
 use borrow.Author.Rules.{rules}

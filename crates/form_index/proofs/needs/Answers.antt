@@ -1,5 +1,5 @@
--- `form_index::needs` meets its contract: the owner and the sort read from record j are those of `attributeIn`, and
--- `must_be_present` tests the sort (`needs-read` of ReadingLaws).
+-- `form_index::needs` meets its contract: the owner and the sort read from record j are those of `attribute_in`, and
+-- `must_be_present` tests the sort (`needs_read` of ReadingLaws).
 use Rattle.form_index.proofs.ReadingLaws.{needs_read}
 use borrow.Author.Rules.{rules}
 use Rattle.form_index.proofs.needs.Goals as goal

@@ -1,6 +1,6 @@
--- `form_index::particles_before` meets its contract: the invariant holds before the first definition (`summed-none` of
+-- `form_index::particles_before` meets its contract: the invariant holds before the first definition (`summed_none` of
 -- ReadingLaws) and after each, by the contract of `model_length` (`before_more`), and past the last it is the contract
--- (`summed-ends`). By the invariant `sum` is at most 4294967296 * j, so that it is in range.
+-- (`summed_ends`). By the invariant `sum` is at most 4294967296 * j, so that it is in range.
 use Prim.Native.Nat.{◌-◌}
 use borrow.Author.Rules.{rules}
 use Rattle.form_index.proofs.ReadingLaws.{Summed, summed_none, summed_ends, before_more}

@@ -1,5 +1,5 @@
--- `form_index::value_may` meets its contract: the sort and the value read from record j are those of `attributeIn`, and
--- `value_allowed` tests v by them (`value-allowed` of ReadingLaws).
+-- `form_index::value_may` meets its contract: the sort and the value read from record j are those of `attribute_in`,
+-- and `value_allowed` tests v by them (`value_allowed` of ReadingLaws).
 use Rattle.form_index.proofs.ReadingLaws.{value_allowed}
 use borrow.Author.Rules.{rules}
 use Rattle.form_index.proofs.value_may.Goals as goal

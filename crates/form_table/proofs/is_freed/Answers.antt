@@ -1,5 +1,5 @@
--- `form_table::is_freed` meets its contract: for `seen` 0 `freedOf` is true, and else it is the answer of `spares` from
--- `seen - 1` on (`freed-from` of TableLaws).
+-- `form_table::is_freed` meets its contract: for `seen` 0 `freed_of` is true, and else it is the answer of `spares`
+-- from `seen - 1` on (`freed_from` of TableLaws).
 use Rattle.form_table.proofs.TableLaws.{freed_from}
 use borrow.Author.Rules.{rules}
 use Rattle.form_table.proofs.is_freed.Goals as goal

@@ -1,5 +1,5 @@
--- `form_table::lay_models` meets its contract: the invariant holds before the first definition (`lining-starts` of
--- TableLaws) and after each, whose line is the model's sets from `fill` and an empty set of attributes (`lining-on`);
+-- `form_table::lay_models` meets its contract: the invariant holds before the first definition (`lining_starts` of
+-- TableLaws) and after each, whose line is the model's sets from `fill` and an empty set of attributes (`lining_on`);
 -- past the last it is the contract (`lining_ends`). The table keeps its length, so that each line is in range.
 use Prim.Native.Nat.{◌-◌}
 use native.Mathlib.Omega.{arith}

@@ -1,6 +1,6 @@
 -- `form_table::lay_need` meets its contract by a law of TableLaws for each return: no row of the attribute must be
--- there (`need-other`), its owner is no definition of the form (`need-past`), or it is put into its owner's set
--- (`need-put`).
+-- there (`need_other`), its owner is no definition of the form (`need_past`), or it is put into its owner's set
+-- (`need_put`).
 use mathlib.Core.Path.{ap}
 use mathlib.Core.Bool.{not}
 use native.Mathlib.Omega.{arith}

@@ -1,6 +1,6 @@
--- `form_table::lay_needs` meets its contract: the invariant holds before the first attribute (`needing-starts` of
--- TableLaws) and after each, by the contract of `lay_need` (`needing-on`), and past the last it is the contract
--- (`needing-ends`).
+-- `form_table::lay_needs` meets its contract: the invariant holds before the first attribute (`needing_starts` of
+-- TableLaws) and after each, by the contract of `lay_need` (`needing_on`), and past the last it is the contract
+-- (`needing_ends`).
 use Prim.Native.Nat.{◌-◌}
 use native.Mathlib.Omega.{arith}
 use borrow.Author.Rules.{rules}

@@ -1,5 +1,5 @@
 -- `form_table::may_finish` meets its contract: for `last` 0, and for `last` from 1 to n, a set of the table has what
--- `finishes` says (`finish-none`, `finish-child` of TableLaws), and above n the return is the answer of
+-- `finishes` says (`finish_none`, `finish_child` of TableLaws), and above n the return is the answer of
 -- `automaton::finishes` for the model's part.
 use mathlib.Core.Path.{ap, ◌∙◌}
 use native.Mathlib.Omega.{arith}

@@ -1,5 +1,5 @@
 -- `form_table::may_follow` meets its contract: for `last` up to n and `index` below 64 a set of the table has what
--- `steps` says (`follow-found` of TableLaws), and else the return is the answer of `automaton::steps` for the model's
+-- `steps` says (`follow_found` of TableLaws), and else the return is the answer of `automaton::steps` for the model's
 -- part.
 use mathlib.Core.Path.{ap, ◌∙◌}
 use native.Mathlib.Omega.{arith}

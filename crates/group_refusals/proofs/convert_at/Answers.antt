@@ -1,5 +1,5 @@
 -- `group_refusals::convert_at` meets its contract by a law of ConvertLaws for each return: `count` is 0 or more than
--- the members (`convert-few`), so many cannot be a group of the kind (`convert-unlike`), or neither (`convert-fine`).
+-- the members (`convert_few`), so many cannot be a group of the kind (`convert_unlike`), or neither (`convert_fine`).
 use lib.ListN.{drop}
 use Prim.Native.Nat.{◌*◌}
 use Rattle.rules.specs.Layout.{particle_size}

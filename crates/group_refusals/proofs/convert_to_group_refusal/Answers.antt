@@ -1,6 +1,6 @@
 -- `group_refusals::convert_to_group_refusal` meets its contract: each return gives the first condition of change 6 that
--- holds: 4 (`convert-4` of ConvertLaws), 6 (`convert-6`), 8 at a place that is absent (`convert-none`), else what
--- `convert_at` gives (`convert-there`), with the place found (`convert-placed`) and in range (`convert-inside`).
+-- holds: 4 (`convert_4` of ConvertLaws), 6 (`convert_6`), 8 at a place that is absent (`convert_none`), else what
+-- `convert_at` gives (`convert_there`), with the place found (`convert_placed`) and in range (`convert_inside`).
 use mathlib.Core.Path.{ap}
 use mathlib.Core.Bool.{not}
 use native.Mathlib.Omega.{arith}

@@ -1,5 +1,5 @@
--- `group_refusals::flatten_at` meets its contract: the code's test has the value of the one condition (`flat-read` of
--- GroupLaws), so that 14 is returned if and only if it holds (`gives-hit`, `gives-next`, `gives_none` of
+-- `group_refusals::flatten_at` meets its contract: the code's test has the value of the one condition (`flat_read` of
+-- GroupLaws), so that 14 is returned if and only if it holds (`gives_hit`, `gives_next`, `gives_none` of
 -- FirstCondition).
 use Rattle.change_laws.proofs.FirstCondition.{gives_hit, gives_next, gives_none}
 use Rattle.group_refusals.proofs.GroupLaws.{flat_read}

@@ -1,6 +1,6 @@
 -- `group_refusals::flatten_group_refusal` meets its contract: each return gives the first condition of change 7 that
--- holds: 6 (`flatten-6` of GroupLaws), 8 at an element or where nothing is found (`flatten-element`, `flatten-none`),
--- else what `flatten_at` gives (`flatten-group`), with the place of the group.
+-- holds: 6 (`flatten_6` of GroupLaws), 8 at an element or where nothing is found (`flatten_element`, `flatten_none`),
+-- else what `flatten_at` gives (`flatten_group_lem`), with the place of the group.
 use native.Mathlib.Omega.{arith}
 use Rattle.store_check.proofs.StoreFacts.{whole, past_definitions, within_definitions}
 use Rattle.model_places.proofs.PickLaws.{as_element, as_group, as_none, refused_there, located_there}

@@ -1,5 +1,5 @@
--- `group_refusals::unlike` meets its contract: the return is `unlikeKind` but for the answer of `same_kind`, which by
--- its contract is `sameKind` (`unlike-read` of GroupLaws).
+-- `group_refusals::unlike` meets its contract: the return is `unlike_kind` but for the answer of `same_kind`, which by
+-- its contract is `same_kind` (`unlike_read` of GroupLaws).
 use Rattle.group_refusals.proofs.GroupLaws.{unlike_read}
 use borrow.Author.Rules.{rules}
 use Rattle.group_refusals.proofs.unlike.Goals as goal

@@ -1,6 +1,6 @@
 -- `insert_call::insert_element` meets its contract: the call is refused on a bad store and by a condition
--- (`bad`, `turned-away` of CallLaws). Else what its calls require holds, as no condition does (`insertion`
--- of Insertion), and `edit_model` writes what the change leaves (`inserted-answers`).
+-- (`bad`, `turned_away` of CallLaws). Else what its calls require holds, as no condition does (`insertion`
+-- of Insertion), and `edit_model` writes what the change leaves (`inserted_answers`).
 use mathlib.Core.Bool.{not}
 use native.Mathlib.Omega.{arith}
 use mathlib.Core.Path.{refl, sym, ◌∙◌, ap}

@@ -1,6 +1,6 @@
 -- `insert_refusals::insert_element_refusal` meets its contract: each return gives the first condition of change 3 that
--- holds: 3 (`insert-3` of RefusalLaws), 4 (`insert-4`), 6 for the owner or the definition (`insert-6`, `insert-6-too`),
--- else what `place_refusal` gives from condition 8 on, with the place (`insert-on`).
+-- holds: 3 (`insert_3` of RefusalLaws), 4 (`insert_4`), 6 for the owner or the definition (`insert_6`, `insert_6_too`),
+-- else what `place_refusal` gives from condition 8 on, with the place (`insert_on`).
 use mathlib.Core.Path.{ap}
 use mathlib.Core.Bool.{not}
 use native.Mathlib.Omega.{arith}

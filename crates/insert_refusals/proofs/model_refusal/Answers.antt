@@ -1,6 +1,6 @@
 -- `insert_refusals::model_refusal` meets its contract: each return gives the first condition from 9 on that holds: 9 to
--- 12 (`model-9`, `model-10`, `model-11`, `model-12` of RefusalLaws), 0 where the element is not needed or the place not
--- off the spine (`model-on`), 13 if there is an instance (`model-13`), else 0 (`model-none`).
+-- 12 (`model_9`, `model_10`, `model_11`, `model_12` of RefusalLaws), 0 where the element is not needed or the place not
+-- off the spine (`model_on`), 13 if there is an instance (`model_13`), else 0 (`model_none`).
 use mathlib.Core.Path.{ap}
 use mathlib.Core.Bool.{not}
 use native.Mathlib.Omega.{arith}

@@ -1,6 +1,6 @@
--- `insert_refusals::place_refusal` meets its contract: a place that is absent gives 8 (`place-8` of RefusalLaws); at
+-- `insert_refusals::place_refusal` meets its contract: a place that is absent gives 8 (`place_8` of RefusalLaws); at
 -- one that is found the conditions left are those of `model_refusal`, with what `off_spine` says of its list
--- (`place-on`), and the place is returned with them (`place-there`).
+-- (`place_on`), and the place is returned with them (`place_there`).
 use native.Mathlib.Omega.{arith}
 use Rattle.model_places.proofs.PickLaws.{refused_there, located_there}
 use Rattle.model_reach.proofs.FormFacts.{reads}

@@ -1,5 +1,5 @@
 -- `layout::attribute_body` meets its contract: the window begins where `attributes_start` says and is as long as the
--- product of `times` says, and so is `attributeBody` (`attributes-window` of LayoutLaws).
+-- product of `times` says, and so is `attribute_body` (`attributes_window` of LayoutLaws).
 use Rattle.layout.proofs.LayoutLaws.{attributes_window}
 use Rattle.layout.proofs.attribute_body.Goals as goal
 

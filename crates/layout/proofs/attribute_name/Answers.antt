@@ -1,5 +1,5 @@
 -- `layout::attribute_name` meets its contract: the window from byte 2 on is as long as byte 1 says, and so is the name
--- that `readAttribute` reads (`window-by` of LayoutLaws).
+-- that `read_attribute` reads (`window_by` of LayoutLaws).
 use lib.ListN.{get_or}
 use Rattle.layout.proofs.LayoutLaws.{window_by}
 use Rattle.layout.proofs.attribute_name.Goals as goal

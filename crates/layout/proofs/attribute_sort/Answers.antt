@@ -1,4 +1,4 @@
--- `layout::attribute_sort` meets its contract: the first byte of what follows 18 bytes, as `readAttribute` reads the
+-- `layout::attribute_sort` meets its contract: the first byte of what follows 18 bytes, as `read_attribute` reads the
 -- sort, is byte 18 (`get_or-drop` of the kit).
 use mathlib.Core.Path.{◌∙◌, sym}
 use lib.Seq.{get_or-drop}

@@ -1,5 +1,5 @@
--- `layout::attributes_start` meets its contract: the sum is the definition of `attributesStart`, and as the counts of a
--- shape that fits are below 2^32 it is in range (`attributes-place` of LayoutLaws).
+-- `layout::attributes_start` meets its contract: the sum is the definition of `attributes_start`, and as the counts of
+-- a shape that fits are below 2^32 it is in range (`attributes_place` of LayoutLaws).
 use Rattle.layout.proofs.LayoutLaws.{attributes_place}
 use Rattle.layout.proofs.attributes_start.Goals as goal
 

@@ -1,4 +1,4 @@
--- `layout::definition_kind` meets its contract: the first byte of what follows 17 bytes, as `readDefinition` reads the
+-- `layout::definition_kind` meets its contract: the first byte of what follows 17 bytes, as `read_definition` reads the
 -- kind, is byte 17 (`get_or-drop` of the kit).
 use mathlib.Core.Path.{◌∙◌, sym}
 use lib.Seq.{get_or-drop}

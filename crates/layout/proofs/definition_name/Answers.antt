@@ -1,5 +1,5 @@
 -- `layout::definition_name` meets its contract: the window from byte 1 on is as long as byte 0 says, and so is the name
--- that `readDefinition` reads (`window-by` of LayoutLaws).
+-- that `read_definition` reads (`window_by` of LayoutLaws).
 use lib.ListN.{get_or}
 use Rattle.layout.proofs.LayoutLaws.{window_by}
 use Rattle.layout.proofs.definition_name.Goals as goal

@@ -1,5 +1,5 @@
 -- `layout::particle_body` meets its contract: the window from the end of the definitions on, 4 bytes for each particle,
--- is the definition of `particleBody` (`particles-window` of LayoutLaws).
+-- is the definition of `particle_body` (`particles_window` of LayoutLaws).
 use Rattle.layout.proofs.LayoutLaws.{particles_window}
 use Rattle.layout.proofs.particle_body.Goals as goal
 

@@ -1,4 +1,4 @@
--- `layout::particle_depth_at` meets its contract: byte `4 * i + 3` of the body is byte 3 of record i (`field-by` of
+-- `layout::particle_depth_at` meets its contract: byte `4 * i + 3` of the body is byte 3 of record i (`field_by` of
 -- LayoutLaws).
 use native.Mathlib.Omega.{arith}
 use Rattle.rules.specs.Layout.{particle_size}

@@ -1,4 +1,4 @@
--- `layout::particle_in` meets its contract: it is the contract of `window` with the store's `definitionCount` put in
+-- `layout::particle_in` meets its contract: it is the contract of `window` with the store's `definition_count` put in
 -- for the count that was read.
 use mathlib.Core.Path.{ap, ◌∙◌}
 use Prim.Native.Nat.{ℕ, ◌+◌, ◌*◌}

@@ -1,4 +1,4 @@
--- `layout::particle_index_at` meets its contract: byte `4 * i + 2` of the body is byte 2 of record i (`field-by` of
+-- `layout::particle_index_at` meets its contract: byte `4 * i + 2` of the body is byte 2 of record i (`field_by` of
 -- LayoutLaws).
 use native.Mathlib.Omega.{arith}
 use Rattle.rules.specs.Layout.{particle_size}

@@ -1,4 +1,4 @@
--- `layout::particle_quantifier_at` meets its contract: byte `4 * i + 1` of the body is byte 1 of record i (`field-by`
+-- `layout::particle_quantifier_at` meets its contract: byte `4 * i + 1` of the body is byte 1 of record i (`field_by`
 -- of LayoutLaws).
 use native.Mathlib.Omega.{arith}
 use Rattle.rules.specs.Layout.{particle_size}

@@ -1,4 +1,4 @@
--- `layout::particle_sort_at` meets its contract: byte `4 * i` of the body is byte 0 of record i (`first-field-by` of
+-- `layout::particle_sort_at` meets its contract: byte `4 * i` of the body is byte 0 of record i (`first_field_by` of
 -- LayoutLaws).
 use native.Mathlib.Omega.{arith}
 use Rattle.rules.specs.Layout.{particle_size}

@@ -1,5 +1,5 @@
 -- `layout::particles_from` meets its contract: the window from particle i on, as long as the body, is all that stands
--- from there on (`cut-past` of LayoutLaws).
+-- from there on (`cut_past` of LayoutLaws).
 use mathlib.Core.Path.{◌∙◌}
 use Prim.Native.Nat.{◌*◌}
 use Rattle.layout.proofs.LayoutLaws.{cut_past}

@@ -1,5 +1,5 @@
 -- `layout::row_body` meets its contract: the window begins where `rows_start` says and is as long as the product of
--- `times` says, and so is `rowBody` (`rows-window` of LayoutLaws).
+-- `times` says, and so is `row_body` (`rows_window` of LayoutLaws).
 use Rattle.layout.proofs.LayoutLaws.{rows_window}
 use Rattle.layout.proofs.row_body.Goals as goal
 

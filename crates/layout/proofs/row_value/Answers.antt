@@ -1,5 +1,5 @@
 -- `layout::row_value` meets its contract: the window from byte 10 on is as long as byte 8 says, and so is the value
--- that `readRow` reads (`window-by` of LayoutLaws).
+-- that `read_row` reads (`window_by` of LayoutLaws).
 use lib.ListN.{get_or}
 use Rattle.layout.proofs.LayoutLaws.{window_by}
 use Rattle.layout.proofs.row_value.Goals as goal

@@ -1,5 +1,5 @@
 -- `layout::through_attributes` meets its contract: the place where the attributes begin and the product for their bytes
--- add up to the place where they end (`attributes-through` of LayoutLaws).
+-- add up to the place where they end (`attributes_through` of LayoutLaws).
 use native.Mathlib.Omega.{arith}
 use Rattle.layout.proofs.LayoutLaws.{attributes_through}
 use Rattle.layout.proofs.through_attributes.Goals as goal

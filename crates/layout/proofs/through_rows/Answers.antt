@@ -1,5 +1,5 @@
 -- `layout::through_rows` meets its contract: the place where the rows begin and the product for their bytes add up to
--- the length (`rows-through` of LayoutLaws).
+-- the length (`rows_through` of LayoutLaws).
 use Rattle.layout.proofs.LayoutLaws.{rows_through}
 use Rattle.layout.proofs.through_rows.Goals as goal
 

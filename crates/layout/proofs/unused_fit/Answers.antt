@@ -1,4 +1,4 @@
--- `layout::unused_fit` meets its contract: the three bytes that are read are those that `unusedFit` tests (`unused-of`
+-- `layout::unused_fit` meets its contract: the three bytes that are read are those that `unused_fit` tests (`unused_of`
 -- of LayoutLaws).
 use Rattle.layout.proofs.LayoutLaws.{unused_of}
 use Rattle.layout.proofs.unused_fit.Goals as goal

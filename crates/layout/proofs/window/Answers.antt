@@ -1,5 +1,5 @@
--- `layout::window` meets its contract: the case split is on where s ends: before `at` (`window-past` of LayoutLaws),
--- less than n bytes after it (`window-short`), or later, so that all n bytes are there (`window-whole`).
+-- `layout::window` meets its contract: the case split is on where s ends: before `at` (`window_past` of LayoutLaws),
+-- less than n bytes after it (`window_short`), or later, so that all n bytes are there (`window_whole`).
 use native.Mathlib.Omega.{arith}
 use Rattle.layout.proofs.LayoutLaws.{window_past, window_short, window_whole}
 use Rattle.layout.proofs.window.Goals as goal

@@ -1,5 +1,5 @@
 -- `layout_row_writer::lay_row` meets its contract: the bytes before the value, zeros, and the value copied over the
--- first of them (`tail-copied` of Writers in `codec`) are those of the row (`row-whole` of WholeLaws).
+-- first of them (`tail_copied` of Writers in `codec`) are those of the row (`row_whole` of WholeLaws).
 use native.Mathlib.Omega.{arith}
 use Rattle.codec.proofs.Writers.{tail_copied}
 use Rattle.layout_row_writer.proofs.WholeLaws.{row_whole}

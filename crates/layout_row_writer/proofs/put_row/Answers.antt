@@ -1,5 +1,5 @@
 -- `layout_row_writer::put_row` meets its contract: where the row has room, `lay_row` writes it over the part that is
--- lent (`row-lent` of WholeLaws). Else what `put_row_start` writes, eight bytes long (`after-start` of RowLaws in
+-- lent (`row_lent` of WholeLaws). Else what `put_row_start` writes, eight bytes long (`after_start` of RowLaws in
 -- `layout`), and what `put_row_end` writes after it are the bytes of the row (`row_laid`).
 use native.Mathlib.Omega.{arith}
 use Rattle.layout.specs.RowBytes.{row_of}

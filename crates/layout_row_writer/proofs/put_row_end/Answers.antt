@@ -1,5 +1,5 @@
 -- `layout_row_writer::put_row_end` meets its contract: the value's length, a zero, the value and the zeros up to the
--- end, laid one after the other (`laid_then`, `laid_as` of Writers in `codec`), are `rowEnd` (`end_is` of RowLaws in
+-- end, laid one after the other (`laid_then`, `laid_as` of Writers in `codec`), are `row_end` (`end_is` of RowLaws in
 -- `layout`).
 use Rattle.layout.proofs.RowLaws.{end_is}
 use native.Mathlib.Omega.{arith}

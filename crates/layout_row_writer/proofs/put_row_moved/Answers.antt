@@ -1,6 +1,6 @@
--- `layout_row_writer::put_row_moved` meets its contract: with its own index the row is written whole (`kept-laid` of
+-- `layout_row_writer::put_row_moved` meets its contract: with its own index the row is written whole (`kept_laid` of
 -- RowLaws in `layout`); with another, what `put_row_index` writes and the row from byte 4 on are the row with that
--- index (`moved-laid`); the lengths are by `row-length`, `after-index` and `part_length`.
+-- index (`moved_laid`); the lengths are by `row_length_lem`, `after_index` and `part_length`.
 use mathlib.Core.Path.{sym, ◌∙◌}
 use native.Mathlib.Omega.{arith}
 use Rattle.layout.proofs.RowLaws.{row_length_lem, after_index, part_length, kept_laid, moved_laid}

@@ -1,6 +1,6 @@
 -- `layout_row_writer::put_row_start` meets its contract: the sort, the depth, the index and the serial's low four
--- bytes, laid one after the other (`laid_then`, `laid_as` of Writers in `codec`), are `rowStart` (`start_is` of RowLaws
--- in `layout`).
+-- bytes, laid one after the other (`laid_then`, `laid_as` of Writers in `codec`), are `row_start` (`start_is` of
+-- RowLaws in `layout`).
 use Rattle.layout.proofs.RowLaws.{start_is}
 use Rattle.codec.proofs.Writers.{laid_as, laid_then}
 use Rattle.layout_row_writer.proofs.put_row_start.Goals as goal

@@ -1,6 +1,6 @@
 -- `layout_row_writer::put_row_valued` meets its contract: what `put_row_index` writes, the four bytes of the serial and
--- what `put_row_end` writes are the row with the index and the value (`valued-laid` of RowLaws in `layout`); the
--- lengths are by `row-length`, `after-index` and `part_length`.
+-- what `put_row_end` writes are the row with the index and the value (`valued_laid` of RowLaws in `layout`); the
+-- lengths are by `row_length_lem`, `after_index` and `part_length`.
 use native.Mathlib.Omega.{arith}
 use Rattle.layout.proofs.RowLaws.{row_length_lem, after_index, part_length, valued_laid}
 use Rattle.layout_row_writer.proofs.put_row_valued.Goals as goal

@@ -1,6 +1,6 @@
 -- `layout_row_writer::put_zeros` meets its contract: the loop's invariant is kept where a zero is stored at i
--- (`zeros-step` of RowLaws in `layout`), and at the end of the zeros, or of `out`, nothing is left to store
--- (`zeros-laid`).
+-- (`zeros_step` of RowLaws in `layout`), and at the end of the zeros, or of `out`, nothing is left to store
+-- (`zeros_laid`).
 use mathlib.Core.Path.{refl}
 use native.Mathlib.Omega.{arith}
 use lib.ListN.{length-set}

@@ -1,6 +1,6 @@
 -- `layout_writer::put_attribute` meets its contract: the owner, the name with its length, the sort and the value with
--- its length, laid one after the other, are `attributeBytes` (`attribute-laid` of RecordLaws in `layout`); the places
--- are in range as the field of the name has 16 bytes (`length-field` of LayoutLaws in `rules`).
+-- its length, laid one after the other, are `attribute_bytes` (`attribute_laid` of RecordLaws in `layout`); the places
+-- are in range as the field of the name has 16 bytes (`length_field` of LayoutLaws in `rules`).
 use native.Mathlib.Omega.{arith}
 use Rattle.rules.proofs.LayoutLaws.{length_field}
 use Rattle.layout.proofs.RecordLaws.{attribute_laid}

@@ -1,5 +1,5 @@
 -- `layout_writer::put_attribute_moved` meets its contract: the owner's byte, then the bytes of the record after its
--- first, are `ownedBytes`, as the record is no longer than that of an attribute (`owned-laid` of RecordLaws in
+-- first, are `owned_bytes`, as the record is no longer than that of an attribute (`owned_laid` of RecordLaws in
 -- `layout`).
 use native.Mathlib.Omega.{arith}
 use Rattle.layout.proofs.RecordLaws.{owned_laid}

@@ -1,6 +1,6 @@
--- `layout_writer::put_contents` meets its contract: each entry has the place that the counts before it give (`place-as`
--- of HeaderLaws in `layout`), and the four, laid one after the other, are `contents` (`contents-laid`); the place of
--- the rows fits in four bytes (`place-low`).
+-- `layout_writer::put_contents` meets its contract: each entry has the place that the counts before it give (`place_as`
+-- of HeaderLaws in `layout`), and the four, laid one after the other, are `contents` (`contents_laid`); the place of
+-- the rows fits in four bytes (`place_low`).
 use native.Mathlib.Omega.{arith}
 use Rattle.layout.proofs.HeaderLaws.{place_low, place_as, contents_laid}
 use borrow.Author.Rules.{rules}

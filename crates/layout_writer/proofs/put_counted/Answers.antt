@@ -1,5 +1,5 @@
 -- `layout_writer::put_counted` meets its contract: the definitions up to the count of number o, the count n and the
--- rest, laid one after the other (`laid_then`, `laid_as` of Writers in `codec`), are `countedBytes` (`rest-counted` of
+-- rest, laid one after the other (`laid_then`, `laid_as` of Writers in `codec`), are `counted_bytes` (`rest_counted` of
 -- RecordLaws in `layout`); neither part is longer than all definitions (`length_cut` of LayoutLaws in `layout`).
 use mathlib.Core.Path.{sym}
 use Prim.Native.Nat.{◌+◌, ◌*◌}

@@ -1,6 +1,6 @@
 -- `layout_writer::put_definition` meets its contract: the name with its length, the kind and the number of particles,
--- laid one after the other, are `definitionBytes` (`definition-laid` of RecordLaws in `layout`); the places are in
--- range as the field of the name has 16 bytes (`length-field` of LayoutLaws in `rules`).
+-- laid one after the other, are `definition_bytes` (`definition_laid` of RecordLaws in `layout`); the places are in
+-- range as the field of the name has 16 bytes (`length_field` of LayoutLaws in `rules`).
 use native.Mathlib.Omega.{arith}
 use Rattle.rules.proofs.LayoutLaws.{length_field}
 use Rattle.layout.proofs.RecordLaws.{definition_laid}

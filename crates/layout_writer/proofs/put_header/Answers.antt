@@ -1,5 +1,5 @@
 -- `layout_writer::put_header` meets its contract: the store's first four bytes, the next serial and the table of
--- contents, laid one after the other, are `headed` (`header-laid` of HeaderLaws in `layout`); the table begins at byte
+-- contents, laid one after the other, are `headed` (`header_laid` of HeaderLaws in `layout`); the table begins at byte
 -- 8 at the latest (`length-take` of lib.ListN).
 use native.Mathlib.Omega.{arith}
 use mathlib.Core.Path.{ap}

@@ -1,4 +1,4 @@
--- `layout_writer::put_particle` meets its contract: the four bytes, laid one after the other, are `particleBytes`
+-- `layout_writer::put_particle` meets its contract: the four bytes, laid one after the other, are `particle_bytes`
 -- (`laid_then` of Writers in `codec`).
 use Rattle.codec.proofs.Writers.{laid_then}
 use borrow.Author.Rules.{rules}

@@ -1,5 +1,5 @@
 -- `look_up_calls::look_up` meets its contract: the case split is on what `passes` answers: a bad store gives the empty
--- part and 1 (`hands-bad` of Laws), a good one what `value_of` gives (`hands-good`).
+-- part and 1 (`hands_bad` of Laws), a good one what `value_of` gives (`hands_good`).
 use mathlib.Core.Path.{ap}
 use mathlib.Core.Bool.{not}
 use borrow.Author.Rules.{rules}

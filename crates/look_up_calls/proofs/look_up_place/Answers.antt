@@ -1,5 +1,5 @@
 -- `look_up_calls::look_up_place` meets its contract: the case split is on what `passes` answers: a bad store gives 1,
--- with place and length 0 (`looks-bad` of Laws), a good one what `find_value` gives (`looks-good`).
+-- with place and length 0 (`looks_bad` of Laws), a good one what `find_value` gives (`looks_good`).
 use mathlib.Core.Path.{ap}
 use mathlib.Core.Bool.{not}
 use borrow.Author.Rules.{rules}

@@ -1,6 +1,6 @@
--- `lookup::find_value` meets its contract: the invariant holds at first (`seek-start` of Laws). The row with the serial
--- is answered as `found_at` says (`seek_hit`), any other is passed (`seek-past`), and past the last row the answer is 7
--- (`seek-none`). What `row_at` reads is row i of the store (`row_of`).
+-- `lookup::find_value` meets its contract: the invariant holds at first (`seek_start` of Laws). The row with the serial
+-- is answered as `found_at` says (`seek_hit`), any other is passed (`seek_past`), and past the last row the answer is 7
+-- (`seek_none`). What `row_at` reads is row i of the store (`row_of`).
 use borrow.Author.Rules.{rules}
 use mathlib.Core.Path.{sym, ap, ◌∙◌, subst}
 use mathlib.Core.List.{List}

@@ -1,5 +1,5 @@
 -- `lookup::found_at` meets its contract: the case split is on the row's sort: an element is answered with 7
--- (`found-element` of Laws), another row with the place and the length of its value (`found-value`, `looks-as` of
+-- (`found_element` of Laws), another row with the place and the length of its value (`found_value`, `looks_as` of
 -- Laws).
 use mathlib.Core.Path.{◌≡◌, sym, ap, ◌∙◌}
 use mathlib.Core.List.{List}

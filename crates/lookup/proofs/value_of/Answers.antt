@@ -1,5 +1,5 @@
 -- `lookup::value_of` meets its contract: the window has the place and the length that `find_value` gave, by its
--- contract those of `foundOn`.
+-- contract those of `found_on`.
 use mathlib.Core.Path.{ap₂, ◌∙◌}
 use Prim.Native.Nat.{ℕ}
 use lib.ListN.{take, drop}

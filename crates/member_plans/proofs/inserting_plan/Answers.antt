@@ -1,4 +1,4 @@
--- `member_plans::inserting_plan` meets its contract: the plan is that of `insert_element_plan`, with `marksAt` and
+-- `member_plans::inserting_plan` meets its contract: the plan is that of `insert_element_plan`, with `marks_at` and
 -- `skips` put in for what `marks` and `needs_filling` gave.
 use mathlib.Core.Path.{ap₂, ◌∙◌}
 use mathlib.Core.Bool.{Bool, ◌&&◌}

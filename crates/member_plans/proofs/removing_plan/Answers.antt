@@ -1,4 +1,4 @@
--- `member_plans::removing_plan` meets its contract: the plan is that of `taking_plan`, which is `removeElementPlan`,
+-- `member_plans::removing_plan` meets its contract: the plan is that of `taking_plan`, which is `remove_element_plan`,
 -- with the index of particle p put in for the one that was read.
 use mathlib.Core.Path.{ap, ◌∙◌}
 use Prim.Native.Nat.{ℕ}

@@ -1,5 +1,5 @@
 -- `model::read_particle` meets its contract: the sort, the index and the quantifier's code are read from the bytes at
--- `at`, and what `read_what` and `read_quantifier` make of them is `particleOf` (`particle-read` of Codes).
+-- `at`, and what `read_what` and `read_quantifier` make of them is `particle_of` (`particle_read` of Codes).
 use Rattle.model.proofs.Codes.{particle_read}
 use Rattle.model.proofs.read_particle.Goals as goal
 

@@ -1,5 +1,5 @@
--- `model::read_what` meets its contract: the arms for 0 and 1 are `whatOf` at these sorts, and every other sort is that
--- of a choice (`choice-of` of Codes).
+-- `model::read_what` meets its contract: the arms for 0 and 1 are `what_of` at these sorts, and every other sort is
+-- that of a choice (`choice_of` of Codes).
 use native.Mathlib.Omega.{arith}
 use Rattle.model.proofs.Codes.{choice_of}
 use Rattle.model.proofs.read_what.Goals as goal

@@ -1,6 +1,6 @@
 -- `model::relaxes` meets its contract: for each pair of the four quantifiers the entry of the table is `relaxes`
--- (`right`, by `each-quantifier` of Codes), and both codes are below 4, so that the entry is within the table
--- (`code-small`).
+-- (`right`, by `each_quantifier` of Codes), and both codes are below 4, so that the entry is within the table
+-- (`code_small`).
 use mathlib.Core.Path.{◌≡◌, refl}
 use mathlib.Core.Bool.{Bool, true, false}
 use mathlib.Core.List.{List, [], ◌∷◌}

@@ -1,6 +1,6 @@
--- `model_edit::edit_model` meets its contract: a form past its ceilings is answered with 16 (`form-ceiling` of
--- FormAnswers); else the buffer has the bytes of the edited form (`form-short`, `stored` of FormWriting) and the counts
--- are its own (`as_many`, `form_of`), as `edit_form` requires, and its answer is that for this form (`form-answers`).
+-- `model_edit::edit_model` meets its contract: a form past its ceilings is answered with 16 (`form_ceiling` of
+-- FormAnswers); else the buffer has the bytes of the edited form (`form_short`, `stored` of FormWriting) and the counts
+-- are its own (`as_many`, `form_of`), as `edit_form` requires, and its answer is that for this form (`form_answers`).
 use Prim.Native.Nat.{ℕ}
 use mathlib.Core.Path.{sym, ◌∙◌}
 use lib.ListN.{length, length-replicate}

@@ -1,6 +1,6 @@
--- `model_edit::keeps_within` meets its contract: a form with more than 256 particles is past its ceilings (`keeps-not`
+-- `model_edit::keeps_within` meets its contract: a form with more than 256 particles is past its ceilings (`keeps_not`
 -- of FormWriting); else the depths after the edit decide, which `is_within` tests (`keeps`); what it and `own_part`
--- require is `still-within` and `owner-low`.
+-- require is `still_within` and `owner_low`.
 use native.Mathlib.Omega.{arith}
 use Rattle.model_form.proofs.FormWriting.{owner_low, keeps_not, keeps, still_within}
 use Rattle.model_edit.proofs.keeps_within.Goals as goal

@@ -1,6 +1,6 @@
--- `model_form::all_after` meets its contract: the two counts that are read are the store's (`many-in` of FormWriting),
--- and the answer of `length_after` is the length of the model after the edit (`after-in`), at most one more than
--- before, so that the sum is in range (`few-more`).
+-- `model_form::all_after` meets its contract: the two counts that are read are the store's (`many_in` of FormWriting),
+-- and the answer of `length_after` is the length of the model after the edit (`after_in`), at most one more than
+-- before, so that the sum is in range (`few_more`).
 use native.Mathlib.Omega.{arith}
 use mathlib.Core.Path.{ap₂}
 use Prim.Native.Nat.{ℕ, ◌+◌, ◌-◌}

@@ -1,5 +1,5 @@
--- `model_form::length_after` meets its contract: each arm is the clause of `lengthAfter` for its edit (`length-case` of
--- FormWriting); for `Remove` and `Flatten` that is n - 1, which is 0 where n is 0.
+-- `model_form::length_after` meets its contract: each arm is the clause of `length_after` for its edit (`length_case`
+-- of FormWriting); for `Remove` and `Flatten` that is n - 1, which is 0 where n is 0.
 use native.Mathlib.Omega.{arith}
 use Rattle.model_form.proofs.FormWriting.{length_case}
 use borrow.Author.Rules.{rules}

@@ -1,6 +1,6 @@
 -- `model_form::put_edited` meets its contract: the definitions with the owner's new count, the particles and the
--- attributes, laid one after the other, are the form after the edit (`form-laid` of FormWriting); numbers and places
--- are in range by `owner-low`, `own-short`, `table-short`, `counted-short`, `particles-short` and `attrs-short`.
+-- attributes, laid one after the other, are the form after the edit (`form_laid` of FormWriting); numbers and places
+-- are in range by `owner_low`, `own_short`, `table_short`, `counted_short`, `particles_short` and `attrs_short`.
 use native.Mathlib.Omega.{arith}
 use Rattle.model_form.proofs.FormWriting.{owner_low, own_short, table_short, particles_short, counted_short, attrs_short, form_laid}
 use borrow.Author.Rules.{rules}

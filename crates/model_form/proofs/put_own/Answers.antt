@@ -1,6 +1,6 @@
 -- `model_form::put_own` meets its contract: the first particle and the length that are read are those of the owner's
--- model (`first-in`, `many-in` of FormWriting), so what `put_particles` writes are the form's particles after the edit
--- (`own-laid`); what it requires is `body-in`, and the owner is in range by `owner-low`.
+-- model (`first_in`, `many_in` of FormWriting), so what `put_particles` writes are the form's particles after the edit
+-- (`own_laid`); what it requires is `body_in`, and the owner is in range by `owner_low`.
 use Rattle.model_form.proofs.FormWriting.{owner_low, first_in, many_in, own_laid, body_in}
 use borrow.Author.Rules.{rules}
 use Rattle.model_form.proofs.put_own.Goals as goal

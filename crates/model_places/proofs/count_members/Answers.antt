@@ -1,6 +1,6 @@
--- `model_places::count_members` meets its contract: a particle less deep than d ends the members (`counting-stop` of
--- CountLaws), any other keeps the invariant, counted where its depth is d (`counting-on`), and with no particle left n
--- is the number (`counting-few`). Each that is counted has four bytes of s, so that n is in range (`counting-small`).
+-- `model_places::count_members` meets its contract: a particle less deep than d ends the members (`counting_stop` of
+-- CountLaws), any other keeps the invariant, counted where its depth is d (`counting_on`), and with no particle left n
+-- is the number (`counting_few`). Each that is counted has four bytes of s, so that n is in range (`counting_small`).
 use Prim.Native.Nat.{◌-◌}
 use native.Mathlib.Omega.{arith}
 use borrow.Author.Rules.{rules}

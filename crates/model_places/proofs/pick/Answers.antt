@@ -1,6 +1,6 @@
 -- `model_places::pick` meets its contract: the case split is on what `find` gives: if absent, the place leads to
--- nothing in the model (`picked_none` of PickLaws); if present, its particle is within the part (`picked-inside`), and
--- what is read there is what the place leads to (`picked-there`); the owner is bounded by `whole` of StoreFacts in
+-- nothing in the model (`picked_none` of PickLaws); if present, its particle is within the part (`picked_inside`), and
+-- what is read there is what the place leads to (`picked_there`); the owner is bounded by `whole` of StoreFacts in
 -- `store_check`.
 use Rattle.model_places.proofs.PickLaws.{picked_none, picked_inside, picked_there}
 use native.Mathlib.Omega.{arith}

@@ -1,5 +1,5 @@
 -- `model_places::pick_at` meets its contract: the case split is on the particle that is read, an element
--- (`pick-element` of PickLaws) or a group (`pick-group`).
+-- (`pick_element` of PickLaws) or a group (`pick_group`).
 use Rattle.model_places.proofs.PickLaws.{pick_element, pick_group}
 use borrow.Author.Rules.{rules}
 use Rattle.model_places.proofs.pick_at.Goals as goal

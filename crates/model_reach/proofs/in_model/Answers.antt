@@ -1,5 +1,5 @@
 -- `model_reach::in_model` meets its contract: definition i stands in the model of o if and only if the part of the
--- model does not lack it (`in-model-is` of ModelLaws); the owner is bounded as a store that passes has at most 64
+-- model does not lack it (`in_model_is` of ModelLaws); the owner is bounded as a store that passes has at most 64
 -- definitions (`reads` of FormFacts).
 use native.Mathlib.Omega.{arith}
 use Rattle.model_reach.proofs.FormFacts.{reads}

@@ -1,6 +1,6 @@
--- `model_reach::lacks` meets its contract: the test of the first particle is that of `other-first` of ModelLaws: an
--- element with index i makes the answer false (`settle-no` of MemberLaws in `circle_check`), another particle leaves it
--- to those after it (`settle-on`), and with none left it is true (`settle-ends`).
+-- `model_reach::lacks` meets its contract: the test of the first particle is that of `other_first` of ModelLaws: an
+-- element with index i makes the answer false (`settle_no` of MemberLaws in `circle_check`), another particle leaves it
+-- to those after it (`settle_on`), and with none left it is true (`settle_ends`).
 use borrow.Author.Rules.{rules}
 use mathlib.Core.Path.{◌≡◌, refl, ap}
 use mathlib.Core.Bool.{not}

@@ -1,4 +1,4 @@
--- `model_scan::counted` meets its contract: one more, or not (`count-one`, `count_none` of ModelLaws).
+-- `model_scan::counted` meets its contract: one more, or not (`count_one`, `count_none` of ModelLaws).
 use Rattle.model_scan.proofs.ModelLaws.{count_one, count_none}
 use borrow.Author.Rules.{rules}
 use Rattle.model_scan.proofs.counted.Goals as goal

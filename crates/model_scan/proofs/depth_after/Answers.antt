@@ -1,5 +1,5 @@
--- `model_scan::depth_after` meets its contract: a `(` leads in, a `)` out, and any other byte nowhere (`depth-in`,
--- `depth-out`, `depth_same` of ModelLaws).
+-- `model_scan::depth_after` meets its contract: a `(` leads in, a `)` out, and any other byte nowhere (`depth_in`,
+-- `depth_out`, `depth_same` of ModelLaws).
 use mathlib.Core.Path.{◌∙◌}
 use Rattle.model_scan.proofs.ModelLaws.{depth_in, depth_out, depth_same}
 use borrow.Author.Rules.{rules}

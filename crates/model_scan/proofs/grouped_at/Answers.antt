@@ -1,6 +1,6 @@
--- `model_scan::grouped_at` meets its contract: each byte of the text keeps the invariant (`grouping-on` of ModelLaws);
--- the group's own `)` ends it with the mark after it (`grouping-closed`), and so does the end of the text
--- (`grouping-open`).
+-- `model_scan::grouped_at` meets its contract: each byte of the text keeps the invariant (`grouping_on` of ModelLaws);
+-- the group's own `)` ends it with the mark after it (`grouping_closed`), and so does the end of the text
+-- (`grouping_open`).
 use Prim.Native.Nat.{◌-◌}
 use lib.ListN.{length}
 use Rattle.model_scan.proofs.ModelLaws.{Grouping, grouping_start, grouping_on, grouping_closed, grouping_open}

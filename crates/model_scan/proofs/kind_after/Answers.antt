@@ -1,5 +1,5 @@
 -- `model_scan::kind_after` meets its contract: the group's own `,` or `|` says its code, any other byte leaves it
--- (`kind-sequence`, `kind-choice`, `kind-same` of ModelLaws).
+-- (`kind_sequence`, `kind_choice`, `kind_same` of ModelLaws).
 use Rattle.model_scan.proofs.ModelLaws.{kind_sequence, kind_choice, kind_same}
 use Rattle.model_scan.proofs.kind_after.Goals as goal
 

@@ -1,5 +1,5 @@
--- `model_scan::measure_model` meets its contract: each byte of the text keeps the invariant (`measuring-on` of
--- ModelLaws), and at its end nothing is left to measure (`measuring-done`).
+-- `model_scan::measure_model` meets its contract: each byte of the text keeps the invariant (`measuring_on` of
+-- ModelLaws), and at its end nothing is left to measure (`measuring_done`).
 use Prim.Native.Nat.{◌-◌}
 use lib.ListN.{length}
 use Rattle.model_scan.proofs.ModelLaws.{Measuring, measuring_start, measuring_on, measuring_done}

@@ -1,6 +1,6 @@
--- `model_scan::put_content` meets its contract: of content with a model its particles are written (`content-laid` of
--- ContentLaws), of any other none (`content-empty`). What is asked of the particles of the content is what `put_model`
--- asks of those of the model (`content-low`, `content-small`).
+-- `model_scan::put_content` meets its contract: of content with a model its particles are written (`content_laid` of
+-- ContentLaws), of any other none (`content_empty`). What is asked of the particles of the content is what `put_model`
+-- asks of those of the model (`content_low`, `content_small`).
 use Rattle.declaration_scan.specs.Names.{written_names}
 use Rattle.model_scan.proofs.ContentLaws.{content_low, content_small, content_laid, content_empty}
 use borrow.Author.Rules.{rules}

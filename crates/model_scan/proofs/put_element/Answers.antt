@@ -1,5 +1,5 @@
 -- `model_scan::put_element` meets its contract: the particle that is written has the place of the name and the code of
--- the mark (`element-laid` of PutLaws); the place fits a byte.
+-- the mark (`element_laid` of PutLaws); the place fits a byte.
 use native.Mathlib.Omega.{arith}
 use Rattle.declaration_scan.specs.Names.{written_names}
 use Rattle.model_scan.proofs.PutLaws.{element_laid}

@@ -1,4 +1,4 @@
--- `model_scan::put_group` meets its contract: the particle that is written has what `grouped_at` saw (`group-laid`
+-- `model_scan::put_group` meets its contract: the particle that is written has what `grouped_at` saw (`group_laid`
 -- of PutLaws).
 use Rattle.model_scan.proofs.PutLaws.{group_laid}
 use borrow.Author.Rules.{rules}

@@ -1,6 +1,6 @@
 -- `model_scan::put_model` meets its contract: the particle that begins at a byte, if one does, is written and keeps the
--- invariant (`putting-on` of PutLaws), and at the end no particle is left (`putting-done`). What is left begins with a
--- byte, and its particle is not too deep (`putting-here`, `putting-low`).
+-- invariant (`putting_on` of PutLaws), and at the end no particle is left (`putting_done`). What is left begins with a
+-- byte, and its particle is not too deep (`putting_here`, `putting_low`).
 use mathlib.Core.Path.{refl}
 use Prim.Native.Nat.{◌-◌}
 use lib.ListN.{length}

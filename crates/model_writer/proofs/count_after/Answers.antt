@@ -1,6 +1,6 @@
--- `model_writer::count_after` meets its contract: in each case of the match the return is the clause of `countAfter`
--- for the edit (`count-case` of HeadWriting), where the count of a group to be flattened is read from its particle
--- (`first-index`).
+-- `model_writer::count_after` meets its contract: in each case of the match the return is the clause of `count_after`
+-- for the edit (`count_case` of HeadWriting), where the count of a group to be flattened is read from its particle
+-- (`first_index`).
 use mathlib.Core.Path.{sym, ap, ◌∙◌}
 use Prim.Native.Nat.{ℕ, ◌+◌, ◌-◌}
 use Rattle.model_writer.proofs.HeadWriting.{count_case, first_index}

@@ -1,5 +1,5 @@
 -- `model_writer::left` meets its contract: a particle that is no member leaves n, which the search finds, and a member
--- leaves `n - 1`, which is 0 for 0 (`passing-member` of WritingLaws).
+-- leaves `n - 1`, which is 0 for 0 (`passing_member` of WritingLaws).
 use mathlib.Core.Path.{sym}
 use native.Mathlib.Omega.{arith}
 use Rattle.model_writer.proofs.WritingLaws.{passing_member}

@@ -1,6 +1,6 @@
 -- `model_writer::put_grouped` meets its contract: the particle of the group and then the members, one deeper, are the
--- bytes after the edit (`laid_then` of Writers, `grouped-bytes` of TailWriting). All numbers that are written are bytes
--- (`grouped-index`, `grouped-depth`, `grouped-fits`).
+-- bytes after the edit (`laid_then` of Writers, `grouped_bytes` of TailWriting). All numbers that are written are bytes
+-- (`grouped_index`, `grouped_depth`, `grouped_fits`).
 use mathlib.Core.Path.{refl}
 use native.Mathlib.Omega.{arith}
 use Rattle.codec.proofs.Writers.{laid_as, laid_then}

@@ -1,6 +1,6 @@
--- `model_writer::put_head` meets its contract: in the top list the first n particles stay (`head-top` of HeadWriting).
--- Else they are those before the group that holds the place, the group and those after it (`head-split`), the group
--- with its count after the edit (`head-group`), which is a byte (`head-fits`).
+-- `model_writer::put_head` meets its contract: in the top list the first n particles stay (`head_top` of HeadWriting).
+-- Else they are those before the group that holds the place, the group and those after it (`head_split`), the group
+-- with its count after the edit (`head_group`), which is a byte (`head_fits`).
 use mathlib.Core.Path.{sym, ◌∙◌}
 use Prim.Native.Nat.{◌+◌, ◌-◌, ◌*◌}
 use native.Mathlib.Omega.{arith}

@@ -1,6 +1,6 @@
 -- `model_writer::put_inserted` meets its contract: the particle of the element and then `ys` are the bytes after the
--- edit (`laid_then` of Writers, `inserted-bytes` of TailWriting). Its index, its depth (`inserted-index`,
--- `inserted-depth`) and its quantifier's code (`code-small` of Codes) are bytes.
+-- edit (`laid_then` of Writers, `inserted_bytes` of TailWriting). Its index, its depth (`inserted_index`,
+-- `inserted_depth`) and its quantifier's code (`code_small` of Codes) are bytes.
 use mathlib.Core.Path.{refl}
 use native.Mathlib.Omega.{arith}
 use Rattle.codec.proofs.Writers.{laid_as, laid_then}

@@ -1,5 +1,5 @@
--- `model_writer::put_moved` meets its contract: where no further particle moves the rest is copied (`going-rest` of
--- WritingLaws). Else the first gets another depth, which is a byte (`going-fits`), and the invariant is kept
+-- `model_writer::put_moved` meets its contract: where no further particle moves the rest is copied (`going_rest` of
+-- WritingLaws). Else the first gets another depth, which is a byte (`going_fits`), and the invariant is kept
 -- (`going_step`). At the end nothing is left to write (`going_done`).
 use mathlib.Core.Path.{sym, ap, ◌∙◌}
 use Prim.Native.Nat.{ℕ, ◌-◌}

@@ -1,6 +1,6 @@
 -- `model_writer::put_part` meets its contract: the head and then the tail are the bytes of the part after the edit
--- (`laid_then` of Writers, `part_bytes` of HeadWriting), and `Part` has what their writers require (`part-head`,
--- `part-tail`).
+-- (`laid_then` of Writers, `part_bytes` of HeadWriting), and `Part` has what their writers require (`part_head`,
+-- `part_tail`).
 use native.Mathlib.Omega.{arith}
 use Rattle.codec.proofs.Writers.{laid_as, laid_then}
 use Rattle.model_writer.proofs.HeadWriting.{part_head, part_tail, part_bytes}

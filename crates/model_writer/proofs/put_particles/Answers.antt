@@ -1,6 +1,6 @@
 -- `model_writer::put_particles` meets its contract: the particles before the definition's own, its own after the edit
 -- and those after them are the bytes of all (`laid_then` of Writers, `body_bytes` of BodyWriting). Its own are a part
--- to edit (`body-part`), which the edit makes longer by at most one particle (`length-few`).
+-- to edit (`body_part`), which the edit makes longer by at most one particle (`length_few`).
 use mathlib.Core.Path.{sym, ap}
 use Prim.Native.Nat.{◌+◌, ◌*◌}
 use native.Mathlib.Omega.{arith}

@@ -1,5 +1,5 @@
 -- `model_writer::put_recounted` meets its contract: the four bytes that are written are those of the particle that is
--- read but for the index, which is `countAfter` by the contract of `count_after` (`particle-same` of WritingLaws).
+-- read but for the index, which is `count_after` by the contract of `count_after` (`particle_same` of WritingLaws).
 use mathlib.Core.Path.{ap, ◌∙◌}
 use native.Mathlib.Omega.{arith}
 use Rattle.codec.proofs.Writers.{laid_as}

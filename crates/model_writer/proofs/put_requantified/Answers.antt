@@ -1,6 +1,6 @@
--- `model_writer::put_requantified` meets its contract: without a particle nothing is written (`requantified-none` of
--- TailWriting). Else the first with the code of the quantifier, which is a byte (`code-small` of Codes), and then the
--- others are the bytes after the edit (`requantified-bytes` of TailWriting, `laid_then` of Writers).
+-- `model_writer::put_requantified` meets its contract: without a particle nothing is written (`requantified_none` of
+-- TailWriting). Else the first with the code of the quantifier, which is a byte (`code_small` of Codes), and then the
+-- others are the bytes after the edit (`requantified_bytes` of TailWriting, `laid_then` of Writers).
 use mathlib.Core.Path.{sym, ap}
 use native.Mathlib.Omega.{arith}
 use lib.ListN.{length, length-drop}

@@ -1,5 +1,5 @@
 -- `model_writer::put_shifted` meets its contract: the four bytes that are written are those of the particle that is
--- read but for the depth, which is `shift` by the contract of `shifted` (`particle-same` of WritingLaws).
+-- read but for the depth, which is `shift` by the contract of `shifted` (`particle_same` of WritingLaws).
 use mathlib.Core.Path.{◌∙◌, ap}
 use Prim.Native.Nat.{ℕ}
 use Rattle.codec.proofs.Writers.{laid_as}

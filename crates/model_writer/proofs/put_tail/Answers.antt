@@ -1,6 +1,6 @@
--- `model_writer::put_tail` meets its contract: each arm writes the bytes of `tailAfter` for its edit (`tail-bytes` of
--- TailWriting): three by the contract of their call, a removal by `removed-bytes` and a flattening by
--- `flattened-bytes`. What a call requires is `Tail` of that edit (`tail-as`).
+-- `model_writer::put_tail` meets its contract: each arm writes the bytes of `tail_after` for its edit (`tail_bytes` of
+-- TailWriting): three by the contract of their call, a removal by `removed_bytes` and a flattening by
+-- `flattened_bytes`. What a call requires is `Tail` of that edit (`tail_as`).
 use mathlib.Core.Path.{sym, ap, ◌∙◌}
 use native.Mathlib.Omega.{arith}
 use lib.ListN.{length, length-drop}

@@ -1,5 +1,5 @@
--- `model_writer::shifted` meets its contract: one deeper is `depth + 1` (`shift-deeper` of WritingLaws), and one less
--- deep is `depth - 1`, which is 0 for 0 (`shift-raised`).
+-- `model_writer::shifted` meets its contract: one deeper is `depth + 1` (`shift_deeper` of WritingLaws), and one less
+-- deep is `depth - 1`, which is 0 for 0 (`shift_raised`).
 use mathlib.Core.Path.{sym}
 use native.Mathlib.Omega.{arith}
 use Rattle.model_writer.proofs.WritingLaws.{shift_deeper, shift_raised}

@@ -1,8 +1,8 @@
 -- `next_children::first_nexts` and `next_children::nexts_from` meet their contracts: `first_nexts` tells of an element
--- (`told-element` of ToldLaws) or of a group by its members (`told-group`). In `nexts_from` the invariant holds at first
--- (`telling-starts`); a deeper particle is passed (`telling-deeper`), one of depth d is joined (`telling-on`), one less
--- deep or the end of s ends the members (`telling-stop`, `telling-few`). In a group there are fewer particles, so the
--- cycle ends.
+-- (`told_element` of ToldLaws) or of a group by its members (`told_group`). In `nexts_from` the invariant holds at
+-- first (`telling_starts`); a deeper particle is passed (`telling_deeper`), one of depth d is joined (`telling_on`),
+-- one less deep or the end of s ends the members (`telling_stop`, `telling_few`). In a group there are fewer particles,
+-- so the cycle ends.
 use Prim.Native.Nat.{◌-◌}
 use native.Mathlib.Omega.{arith}
 use lib.ListN.{length, drop, length-take, length-drop}

@@ -1,6 +1,6 @@
 -- `next_children::after_child` meets its contract: a child that the model names has the sets of `nexts_of`
--- (`after-named` of NamesLaws), and any other is in no word, so that nothing follows it and no word ends with it
--- (`after-other`).
+-- (`after_named` of NamesLaws), and any other is in no word, so that nothing follows it and no word ends with it
+-- (`after_other`).
 use Rattle.next_children.proofs.NamesLaws.{after_named, after_other}
 use Rattle.next_children.proofs.after_child.Goals as goal
 

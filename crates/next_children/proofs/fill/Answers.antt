@@ -1,5 +1,5 @@
 -- `next_children::fill` meets its contract: the entries of `fill_after`, and those written after it at 0, 65 and 66,
--- are the line of the model (`line-filled` of LineLaws). A write keeps the length of `t` (`length-set` of ListN), so
+-- are the line of the model (`line_filled` of LineLaws). A write keeps the length of `t` (`length-set` of ListN), so
 -- that each place is in range.
 use Rattle.model.specs.Members.{all_members}
 use Rattle.next_children.proofs.LineLaws.{line_filled}

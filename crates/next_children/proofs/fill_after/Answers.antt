@@ -1,6 +1,6 @@
 -- `next_children::fill_after` meets its contract: each step writes the entry of the child x, and x into `ends` if no
--- child is owed after it, which keeps the invariant (`filling-on` of LineLaws). It holds at first for no child
--- (`filling-starts`), and at the end for all n (`filling-ends`).
+-- child is owed after it, which keeps the invariant (`filling_on` of LineLaws). It holds at first for no child
+-- (`filling_starts`), and at the end for all n (`filling_ends`).
 use native.Mathlib.Omega.{arith}
 use Rattle.model.specs.Members.{all_members}
 use Rattle.next_children.proofs.LineLaws.{filling_starts, filling_on, filling_ends}

@@ -1,4 +1,4 @@
--- `next_children::in_choice` meets its contract: the four fields are those of `nextsJoin` for a choice, where `union`
+-- `next_children::in_choice` meets its contract: the four fields are those of `nexts_join` for a choice, where `union`
 -- unfolds to the operator `|` of the code.
 use mathlib.Core.Path.{refl}
 use Rattle.sets.specs.Sets.{union}

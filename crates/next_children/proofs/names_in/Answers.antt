@@ -1,5 +1,5 @@
 -- `next_children::names_in` meets its contract: each step adds the name of the first particle that is left, and so
--- keeps the invariant (`naming-on` of NamesLaws). At the end no particle is left to name an element (`naming-ends`).
+-- keeps the invariant (`naming_on` of NamesLaws). At the end no particle is left to name an element (`naming_ends`).
 use Prim.Native.Nat.{◌-◌}
 use native.Mathlib.Omega.{arith}
 use lib.ListN.{length, drop, length-take, length-drop}

@@ -1,4 +1,4 @@
--- `next_children::no_members` meets its contract: in each case of the match the return is the clause of `nextsEmpty`
+-- `next_children::no_members` meets its contract: in each case of the match the return is the clause of `nexts_empty`
 -- for that kind, by a rewrite of the kind.
 use Rattle.next_children.proofs.no_members.Goals as goal
 

@@ -1,4 +1,4 @@
--- `next_children::one_element` meets its contract: the return is `nextsSingle` but for the field `first`, which is
+-- `next_children::one_element` meets its contract: the return is `nexts_single` but for the field `first`, which is
 -- `bit` of i by the contract of `sets::bit`.
 use Rattle.next_children.proofs.one_element.Goals as goal
 

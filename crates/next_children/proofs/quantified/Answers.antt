@@ -1,6 +1,6 @@
--- `next_children::quantified` meets its contract: in each case of the match the return is the clause of `nextsQuantify`
--- for that quantifier. For a star and a plus `union` unfolds to the operator `|`, and the answer of `given` is
--- rewritten by its contract.
+-- `next_children::quantified` meets its contract: in each case of the match the return is the clause of
+-- `nexts_quantify` for that quantifier. For a star and a plus `union` unfolds to the operator `|`, and the answer of
+-- `given` is rewritten by its contract.
 use Rattle.sets.specs.Sets.{union}
 use Rattle.next_children.proofs.quantified.Goals as goal
 

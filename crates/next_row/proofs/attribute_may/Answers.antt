@@ -1,7 +1,7 @@
--- `next_row::attribute_may` meets its contract: each return is a case of `attributeMay`: no more may come (by its
--- definition), the index is too low (`attribute-late` of RowLaws) or too high (`attribute-past`), or its owner, its
--- value and the attributes passed over decide (`attribute-comes`, by `owner-read` of ReadingLaws in `form_index`,
--- `value_read` and `spares-read` of RowLaws).
+-- `next_row::attribute_may` meets its contract: each return is a case of `attribute_may`: no more may come (by its
+-- definition), the index is too low (`attribute_late` of RowLaws) or too high (`attribute_past`), or its owner, its
+-- value and the attributes passed over decide (`attribute_comes`, by `owner_read` of ReadingLaws in `form_index`,
+-- `value_read` and `spares_read` of RowLaws).
 use Rattle.form_index.specs.Reading.{attributes_of}
 use Rattle.rules.specs.Decode.{read_row}
 use Rattle.form_index.proofs.ReadingLaws.{owner_read}

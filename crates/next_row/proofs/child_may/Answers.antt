@@ -1,5 +1,5 @@
--- `next_row::child_may` meets its contract: each arm is the clause of `childMay` for its kind: 0 (`child-none` of
--- RowLaws), 1 (`child-text`), any other (`child-word`, with what `may_follow` answers).
+-- `next_row::child_may` meets its contract: each arm is the clause of `child_may` for its kind: 0 (`child_none` of
+-- RowLaws), 1 (`child_text`), any other (`child_word`, with what `may_follow` answers).
 use native.Mathlib.Omega.{arith}
 use Rattle.next_row.proofs.RowLaws.{child_none, child_text, child_word}
 use borrow.Author.Rules.{rules}

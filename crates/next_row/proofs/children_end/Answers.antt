@@ -1,5 +1,5 @@
--- `next_row::children_end` meets its contract: each arm is the clause of `childrenEnd` for its kind: 0 (`end_empty` of
--- RowLaws), 1 (`end-text`), any other (`end-word`, with what `may_finish` answers).
+-- `next_row::children_end` meets its contract: each arm is the clause of `children_end` for its kind: 0 (`end_empty` of
+-- RowLaws), 1 (`end_text_lem`), any other (`end_word`, with what `may_finish` answers).
 use native.Mathlib.Omega.{arith}
 use Rattle.next_row.proofs.RowLaws.{end_empty, end_text_lem, end_word}
 use borrow.Author.Rules.{rules}

@@ -1,6 +1,6 @@
--- `next_row::may_come` meets its contract: the case split is on what the level holds: documents (`may-root` of
--- RowLaws), nothing (`may_none`), the rows below an element whose definition is not there (`may-unknown`) or is there
--- (`may-known`, with what `row_may` answers).
+-- `next_row::may_come` meets its contract: the case split is on what the level holds: documents (`may_root` of
+-- RowLaws), nothing (`may_none`), the rows below an element whose definition is not there (`may_unknown`) or is there
+-- (`may_known`, with what `row_may` answers).
 use Rattle.form_index.specs.Reading.{index_form}
 use Rattle.rules.specs.Decode.{read_row}
 use Rattle.next_row.proofs.RowLaws.{may_root, may_none, may_unknown, may_known}

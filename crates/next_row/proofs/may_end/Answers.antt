@@ -1,6 +1,6 @@
 -- `next_row::may_end` meets its contract: each return is a case of `ends`: the level holds no rows below an element
--- (`ends-other` of RowLaws), its definition is not there (`ends-unknown`), an attribute is owed (`ends-owed`), or the
--- children decide (`ends-known`); the entry of the table says which attributes are needed (`freed-read`).
+-- (`ends_other` of RowLaws), its definition is not there (`ends_unknown`), an attribute is owed (`ends_owed`), or the
+-- children decide (`ends_known`); the entry of the table says which attributes are needed (`freed_read`).
 use native.Mathlib.Omega.{arith}
 use Rattle.form_index.specs.Reading.{index_form}
 use Rattle.next_row.proofs.RowLaws.{ends_other, ends_unknown, ends_owed, ends_known, freed_read}

@@ -1,6 +1,6 @@
--- `next_row::row_may` meets its contract: each return is a case of `rowMay`: an attribute's row (`row-attribute` of
--- RowLaws), an attribute is owed (`row-owed`), or a child (`row-child`); the entry of the table says which attributes
--- are needed (`freed-read`).
+-- `next_row::row_may` meets its contract: each return is a case of `row_may`: an attribute's row (`row_attribute` of
+-- RowLaws), an attribute is owed (`row_owed`), or a child (`row_child`); the entry of the table says which attributes
+-- are needed (`freed_read`).
 use Rattle.rules.specs.Decode.{read_row}
 use Rattle.form_index.specs.Reading.{index_form}
 use Rattle.next_row.proofs.RowLaws.{row_attribute, row_owed, row_child, freed_read}

@@ -1,6 +1,6 @@
 -- `open_levels::end` meets its contract: the proof is that of `levels_end` with 0 for `keep`: a level that is owed
--- something makes the answer false (`closing-no` of ClosingLaws), any other leaves it to the levels below it
--- (`closing-on`), and with no level left it is true (`closing-ends`).
+-- something makes the answer false (`closing_no` of ClosingLaws), any other leaves it to the levels below it
+-- (`closing_on`), and with no level left it is true (`closing_ends`).
 use mathlib.Core.Path.{refl}
 use native.Mathlib.Omega.{arith}
 use borrow.Author.Tests.{not-true, not-false}

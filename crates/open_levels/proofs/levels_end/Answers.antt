@@ -1,6 +1,6 @@
--- `open_levels::levels_end` meets its contract: a level that is owed something makes the answer false (`closing-no` of
--- ClosingLaws), any other leaves it to the levels below it (`closing-on`), and with no level from `keep` on left it is
--- true (`closing-ends`).
+-- `open_levels::levels_end` meets its contract: a level that is owed something makes the answer false (`closing_no` of
+-- ClosingLaws), any other leaves it to the levels below it (`closing_on`), and with no level from `keep` on left it is
+-- true (`closing_ends`).
 use mathlib.Core.Path.{refl}
 use native.Mathlib.Omega.{arith}
 use borrow.Author.Tests.{not-true, not-false}

@@ -1,6 +1,6 @@
 -- `place_lookup::find_in` meets its contract: an empty place leads nowhere (`place_none` of EnteringLaws), a last
--- number to a member or a gap (`place-last`), and another into a group (`place-in`) or nowhere (`place_out`). The call
--- is for a place shorter by one number and a part within s (`entered-part`).
+-- number to a member or a gap (`place_last`), and another into a group (`place_in_lem`) or nowhere (`place_out`). The
+-- call is for a place shorter by one number and a part within s (`entered_part`).
 use mathlib.Core.Path.{ap, ◌∙◌}
 use native.Mathlib.Omega.{arith}
 use borrow.Author.Rules.{rules}

@@ -1,5 +1,5 @@
--- `place_lookup::ended` meets its contract: with no member left to pass the answer is the end of the list (`ended-all`
--- of PlacesLaws), else the list has too few (`ended-few`).
+-- `place_lookup::ended` meets its contract: with no member left to pass the answer is the end of the list (`ended_all`
+-- of PlacesLaws), else the list has too few (`ended_few`).
 use Rattle.model.proofs.PlacesLaws.{ended_all, ended_few}
 use Rattle.place_lookup.proofs.ended.Goals as goal
 

@@ -1,6 +1,6 @@
 -- `place_lookup::enter` meets its contract: 0 enters no group, which the search finds. For another n the answer of
--- `reach` for `n - 1` gives the clause of `entered_at` (`enter-some` of EnteringLaws), at a member by `enter_at`, as the
--- member lies within s (`member-bounded` of ParticleLaws).
+-- `reach` for `n - 1` gives the clause of `entered_at` (`enter_some` of EnteringLaws), at a member by `enter_at`, as
+-- the member lies within s (`member_bounded` of ParticleLaws).
 use Rattle.model.specs.Members.{particles_of}
 use Rattle.model.proofs.ParticleLaws.{member_bounded}
 use Rattle.model.proofs.EnteringLaws.{enter_some}

@@ -1,6 +1,6 @@
--- `place_lookup::enter_at` meets its contract: an element is not entered (`enter-element` of EnteringLaws). A group is,
+-- `place_lookup::enter_at` meets its contract: an element is not entered (`enter_element` of EnteringLaws). A group is,
 -- with the part that `span` measures after its particle, and on the spine if the list is and `plain` holds
--- (`enter-group`).
+-- (`enter_group_lem`).
 use native.Mathlib.Omega.{arith}
 use Rattle.model.proofs.EnteringLaws.{enter_element, enter_group_lem}
 use borrow.Author.Rules.{rules}

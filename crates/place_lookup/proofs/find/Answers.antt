@@ -1,4 +1,4 @@
--- `place_lookup::find` meets its contract: a place of more than five numbers leads nowhere (`place-long` of
+-- `place_lookup::find` meets its contract: a place of more than five numbers leads nowhere (`place_long` of
 -- EnteringLaws), and any other where `find_in` finds it from the top list on (`place_short`).
 use native.Mathlib.Omega.{arith}
 use Rattle.model.proofs.EnteringLaws.{place_long, place_short}

@@ -1,6 +1,6 @@
--- `place_lookup::gap_after` meets its contract: for each answer of `reach` the return is the clause of `atGap`
--- (`gap-member`, `gap-end`, `gap-few` of EnteringLaws). The particle or the end lies within s, so that the sum is in
--- range (`member-bounded`, `end-bounded` of ParticleLaws).
+-- `place_lookup::gap_after` meets its contract: for each answer of `reach` the return is the clause of `at_gap`
+-- (`gap_member`, `gap_end`, `gap_few` of EnteringLaws). The particle or the end lies within s, so that the sum is in
+-- range (`member_bounded`, `end_bounded` of ParticleLaws).
 use native.Mathlib.Omega.{arith}
 use Rattle.model.proofs.ParticleLaws.{member_bounded, end_bounded}
 use Rattle.model.proofs.EnteringLaws.{gap_member, gap_end, gap_few}

@@ -1,5 +1,5 @@
 -- `place_lookup::last_of` meets its contract: with `insert` it is the contract of `gap_after`. Else 0 leads to no
--- member, which the search finds, and another n to the one after the first `n - 1` (`last-member` of EnteringLaws).
+-- member, which the search finds, and another n to the one after the first `n - 1` (`last_member` of EnteringLaws).
 use Rattle.model.proofs.EnteringLaws.{last_member}
 use borrow.Author.Rules.{rules}
 use Rattle.place_lookup.proofs.last_of.Goals as goal

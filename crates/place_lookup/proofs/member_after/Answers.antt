@@ -1,6 +1,6 @@
--- `place_lookup::member_after` meets its contract: for each answer of `reach` the return is the clause of `atMember`
--- (`member-member`, `member-end`, `member-few` of EnteringLaws). The member lies within s, so that the sum is in range
--- (`member-bounded` of ParticleLaws).
+-- `place_lookup::member_after` meets its contract: for each answer of `reach` the return is the clause of `at_member`
+-- (`member_member`, `member_end`, `member_few` of EnteringLaws). The member lies within s, so that the sum is in range
+-- (`member_bounded` of ParticleLaws).
 use native.Mathlib.Omega.{arith}
 use Rattle.model.proofs.ParticleLaws.{member_bounded}
 use Rattle.model.proofs.EnteringLaws.{member_member, member_end, member_few}

@@ -1,6 +1,6 @@
--- `place_lookup::reach` meets its contract: a particle less deep than d, or none, ends the list (`left-stop`,
--- `left-few` of PlacesLaws). One of depth d is the member where m is 0 (`left-member`), else it is passed and counted
--- (`left-pass`). A deeper one is passed (`left-deeper`).
+-- `place_lookup::reach` meets its contract: a particle less deep than d, or none, ends the list (`left_stop`,
+-- `left_few` of PlacesLaws). One of depth d is the member where m is 0 (`left_member`), else it is passed and counted
+-- (`left_pass`). A deeper one is passed (`left_deeper`).
 use mathlib.Core.Path.{◌∙◌}
 use mathlib.Core.Logic.{⊎_elim}
 use Prim.Native.Nat.{◌-◌}

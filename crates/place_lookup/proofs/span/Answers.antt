@@ -1,5 +1,5 @@
--- `place_lookup::span` meets its contract: a particle no deeper than d, or none, ends the span (`deeper-stop`,
--- `deeper-few` of PlacesLaws), and a deeper one is counted (`deeper-on`).
+-- `place_lookup::span` meets its contract: a particle no deeper than d, or none, ends the span (`deeper_stop`,
+-- `deeper_few` of PlacesLaws), and a deeper one is counted (`deeper_on`).
 use Prim.Native.Nat.{◌-◌}
 use native.Mathlib.Omega.{arith}
 use borrow.Author.Rules.{rules}

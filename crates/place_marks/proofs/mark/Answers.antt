@@ -1,5 +1,5 @@
 -- `place_marks::mark` meets its contract: each step marks the first particle that is left, if it is an element, and so
--- keeps the invariant (`marking-on` of WriteLaws). At the end no particle is left to mark (`marking-ends`).
+-- keeps the invariant (`marking_on` of WriteLaws). At the end no particle is left to mark (`marking_ends`).
 use borrow.Author.Rules.{rules}
 use native.Mathlib.Omega.{arith}
 use Prim.Native.Nat.{◌-◌}

@@ -1,4 +1,4 @@
--- `place_marks::mark_first` meets its contract: an element, sort 0, has the value stored at its index (`first-element`
+-- `place_marks::mark_first` meets its contract: an element, sort 0, has the value stored at its index (`first_element`
 -- of WriteLaws), and a group changes nothing (`first_group`).
 use Rattle.place_marks.proofs.WriteLaws.{first_element, first_group}
 use borrow.Author.Rules.{rules}

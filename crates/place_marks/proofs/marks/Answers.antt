@@ -1,5 +1,5 @@
 -- `place_marks::marks` meets its contract: the two windows are the first p particles and the next n, and the two calls
--- mark their elements with 1 and then with 2 in 64 zeros, as `marksAt` does (`marks-laid` of WriteLaws).
+-- mark their elements with 1 and then with 2 in 64 zeros, as `marks_at` does (`marks_laid` of WriteLaws).
 use Rattle.place_marks.proofs.WriteLaws.{marks_laid}
 use native.Mathlib.Omega.{arith}
 use borrow.Author.Rules.{rules}

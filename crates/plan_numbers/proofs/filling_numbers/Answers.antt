@@ -1,4 +1,4 @@
--- `plan_numbers::filling_numbers` meets its contract: in each case of the match `fillingIn` of the three numbers is
+-- `plan_numbers::filling_numbers` meets its contract: in each case of the match `filling_in` of the three numbers is
 -- that filling. The search finds it for the first three, and for a group it is the contract of `group_numbers`.
 use mathlib.Core.Path.{sym, ◌∙◌}
 use borrow.Author.Rules.{rules}

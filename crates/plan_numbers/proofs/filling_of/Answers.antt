@@ -1,5 +1,5 @@
--- `plan_numbers::filling_of` meets its contract: for 0 to 3 the return is the clause of `fillingIn`, and every other
--- number is that of a choice (`filling-choice` of LentLaws).
+-- `plan_numbers::filling_of` meets its contract: for 0 to 3 the return is the clause of `filling_in`, and every other
+-- number is that of a choice (`filling_choice` of LentLaws).
 use native.Mathlib.Omega.{arith}
 use Rattle.plan_numbers.proofs.LentLaws.{filling_choice}
 use borrow.Author.Rules.{rules}

@@ -1,5 +1,5 @@
 -- `plan_numbers::group_numbers` meets its contract: in each case of the match the first number is the one that
--- `fillingIn` reads as that kind, 3 or 4, so that a rewrite of the kind is enough.
+-- `filling_in` reads as that kind, 3 or 4, so that a rewrite of the kind is enough.
 use borrow.Author.Rules.{rules}
 use Rattle.plan_numbers.proofs.group_numbers.Goals as goal
 

@@ -1,5 +1,5 @@
--- `plan_numbers::plan_numbers` meets its contract: `planIn` reads each field back, those that a call turned into
--- numbers by the contract of that call and the others as they are (`plan-lent` of LentLaws).
+-- `plan_numbers::plan_numbers` meets its contract: `plan_in` reads each field back, those that a call turned into
+-- numbers by the contract of that call and the others as they are (`plan_lent` of LentLaws).
 use lib.ListN.{get_or}
 use Rattle.plan_numbers.proofs.LentLaws.{plan_lent}
 use borrow.Author.Rules.{rules}

@@ -1,6 +1,6 @@
 -- `plan_writer::put_edited` meets its contract: the rows are written behind the place of header and form, then these
--- (`edited-laid` of EditedLaws); the place is in range by `form-short` of FormBytesLaws, the count and the next serial,
--- those of the rows (`count-is`, `serial-is`), by `limit-within` of WithinLaws.
+-- (`edited_laid` of EditedLaws); the place is in range by `form_short` of FormBytesLaws, the count and the next serial,
+-- those of the rows (`count_is`, `serial_is`), by `limit_within` of WithinLaws.
 use native.Mathlib.Omega.{arith}
 use Rattle.layout.proofs.LayoutLaws.{width_within}
 use Rattle.store_laws.proofs.StoreLaws.{holds}

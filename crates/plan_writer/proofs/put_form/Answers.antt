@@ -1,5 +1,5 @@
 -- `plan_writer::put_form` meets its contract: the header, then the form, are what is to be laid (`laid_then` of
--- Writers in `codec`); the header is no longer than its size, so that the form's place is in range (`headed-short` of
+-- Writers in `codec`); the header is no longer than its size, so that the form's place is in range (`headed_short` of
 -- HeaderLaws in `layout`).
 use native.Mathlib.Omega.{arith}
 use Rattle.codec.proofs.Writers.{laid_then}

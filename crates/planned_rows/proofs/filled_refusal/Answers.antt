@@ -1,6 +1,6 @@
 -- `planned_rows::filled_refusal` meets its contract: the walk with one row for each filling counts the places
--- (`times-of`, `places-are` of FilledLaws): if it passes the ceiling, so do the rows (`filled-past`); else `one` rows
--- at each place give the limit (`filled-counted`), from numbers in range (`places-within`, `new-small`).
+-- (`times_of`, `places_are` of FilledLaws): if it passes the ceiling, so do the rows (`filled_past`); else `one` rows
+-- at each place give the limit (`filled_counted`), from numbers in range (`places_within`, `new_small`).
 use native.Mathlib.Omega.{arith}
 use Rattle.lookup.specs.Bodies.{bodies_of}
 use Rattle.planned_rows.specs.Planned.{fill_of}

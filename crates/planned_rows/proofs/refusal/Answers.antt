@@ -1,6 +1,6 @@
 -- `planned_rows::refusal` meets its contract: if the most that the plan adds is within the limits, so are its rows
--- (`refusal-spared` of RefusalLaws); else, where `most_added` gave the number of rows of the filling, the contract of
--- `filled_refusal` is this one, and where it gave 0, the walk counts all rows (`refusal-counted`).
+-- (`refusal_spared` of RefusalLaws); else, where `most_added` gave the number of rows of the filling, the contract of
+-- `filled_refusal` is this one, and where it gave 0, the walk counts all rows (`refusal_counted`).
 use native.Mathlib.Omega.{arith}
 use Rattle.lookup.specs.Bodies.{bodies_of}
 use Rattle.planned_rows.specs.Planned.{rows_after}

@@ -1,5 +1,5 @@
 -- `planned_rows::walk_rows` meets its contract: what is read is the store's (`reads_of` of WalkLaws), so that `walk`
--- may be called (`walk-ready`, `walk-asked`, `walk-whole`, `walk-room`), and the rows that it writes are those after
+-- may be called (`walk_ready`, `walk_asked`, `walk_whole`, `walk_room`), and the rows that it writes are those after
 -- the plan (`walk_from`).
 use Rattle.planned_rows.proofs.WalkLaws.{reads_of, walk_ready, walk_asked, walk_whole, walk_room, walk_from_lem}
 use borrow.Author.Rules.{rules}

@@ -1,4 +1,4 @@
--- `plans::add_attribute_plan` meets its contract: the return is `addAttributePlan` but for the fields `fills` and
+-- `plans::add_attribute_plan` meets its contract: the return is `add_attribute_plan` but for the fields `fills` and
 -- `marks`, which are equal by the contracts of `must_be_present` and `unmarked`.
 use borrow.Author.Rules.{rules}
 use Rattle.plans.proofs.add_attribute_plan.Goals as goal

@@ -1,4 +1,4 @@
--- `plans::cut_takes` meets its contract: the two returns are the two clauses of `cutTakes`, by a rewrite of `cut` and
+-- `plans::cut_takes` meets its contract: the two returns are the two clauses of `cut_takes`, by a rewrite of `cut` and
 -- by the search.
 use borrow.Author.Rules.{rules}
 use Rattle.plans.proofs.cut_takes.Goals as goal

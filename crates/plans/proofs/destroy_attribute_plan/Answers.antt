@@ -1,4 +1,4 @@
--- `plans::destroy_attribute_plan` meets its contract: the return is `destroyAttributePlan` but for the field `marks`,
+-- `plans::destroy_attribute_plan` meets its contract: the return is `destroy_attribute_plan` but for the field `marks`,
 -- which is equal by the contract of `unmarked`.
 use borrow.Author.Rules.{rules}
 use Rattle.plans.proofs.destroy_attribute_plan.Goals as goal

@@ -1,4 +1,4 @@
--- `plans::filling_plan` meets its contract: the return is `fillingPlan` but for the field `marks`, which is equal by
+-- `plans::filling_plan` meets its contract: the return is `filling_plan` but for the field `marks`, which is equal by
 -- the contract of `unmarked`.
 use borrow.Author.Rules.{rules}
 use Rattle.plans.proofs.filling_plan.Goals as goal

@@ -1,5 +1,5 @@
--- `plans::requantify_plan` meets its contract: the return is `requantifyPlan` but for the fields `takes` and `filling`,
--- which are equal by the contracts of `cut_takes` and `gain_filling`.
+-- `plans::requantify_plan` meets its contract: the return is `requantify_plan` but for the fields `takes` and
+-- `filling`, which are equal by the contracts of `cut_takes` and `gain_filling`.
 use borrow.Author.Rules.{rules}
 use Rattle.plans.proofs.requantify_plan.Goals as goal
 

@@ -1,5 +1,5 @@
 -- `plans::set_attribute_plan` meets its contract: by the contracts of the calls the two returns are the two clauses of
--- `setAttributePlan`, where `row` is 0 (`set-plan-none`) and where it is not (`set-plan-some`).
+-- `set_attribute_plan`, where `row` is 0 (`set-plan-none`) and where it is not (`set-plan-some`).
 use Prim.Native.Nat.{ℕ}
 use mathlib.Core.Path.{◌≡◌, sym, ap, ◌∙◌}
 use mathlib.Core.Bool.{Bool, true, false}

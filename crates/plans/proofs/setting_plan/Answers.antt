@@ -1,4 +1,4 @@
--- `plans::setting_plan` meets its contract: the return is `settingPlan` but for the field `marks`, which is equal by
+-- `plans::setting_plan` meets its contract: the return is `setting_plan` but for the field `marks`, which is equal by
 -- the contract of `unmarked`.
 use borrow.Author.Rules.{rules}
 use Rattle.plans.proofs.setting_plan.Goals as goal

@@ -1,4 +1,4 @@
--- `plans::taking_plan` meets its contract: the return is `takingPlan` but for the field `marks`, which is equal by the
+-- `plans::taking_plan` meets its contract: the return is `taking_plan` but for the field `marks`, which is equal by the
 -- contract of `unmarked`.
 use borrow.Author.Rules.{rules}
 use Rattle.plans.proofs.taking_plan.Goals as goal

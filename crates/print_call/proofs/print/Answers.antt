@@ -1,6 +1,6 @@
--- `print_call::print` meets its contract: the call is refused with 1 on a bad store (`prints-bad` of Laws). The first
--- print tells the length of the text, so that one longer than `out` is refused with 18 (`prints-short`) and any other
--- is written whole (`prints-all`). A store that passes has what `print_store` requires (`within-passed`).
+-- `print_call::print` meets its contract: the call is refused with 1 on a bad store (`prints_bad` of Laws). The first
+-- print tells the length of the text, so that one longer than `out` is refused with 18 (`prints_short`) and any other
+-- is written whole (`prints_all`). A store that passes has what `print_store` requires (`within_passed`).
 use mathlib.Core.Path.{ap}
 use mathlib.Core.Bool.{not}
 use native.Mathlib.Omega.{arith}

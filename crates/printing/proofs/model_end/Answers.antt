@@ -1,5 +1,5 @@
 -- `printing::model_end` meets its contract: the case split is on whether `from + n` is below the count: if so, the
--- particles are those up to there (`from-take` of FormLaws), else all that are left (`from-take-all`).
+-- particles are those up to there (`from_take` of FormLaws), else all that are left (`from_take_all`).
 use mathlib.Core.Path.{◌≡◌, sym, ap, ◌∙◌}
 use Prim.Native.Nat.{ℕ}
 use native.Mathlib.Omega.{arith}

@@ -1,5 +1,5 @@
 -- `printing::print_store` meets its contract: the text of the form, then that of the documents, is the text of the
--- store (`text-parts` of FormLaws; `laid_then` and `laid_as` of Writers in `codec`).
+-- store (`text_parts` of FormLaws; `laid_then` and `laid_as` of Writers in `codec`).
 use Rattle.lookup.specs.Bodies.{RowsOf}
 use Rattle.codec.proofs.Writers.{laid_then, laid_as}
 use Rattle.printing.proofs.FormLaws.{text_parts}

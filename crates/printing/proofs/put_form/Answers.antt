@@ -1,5 +1,5 @@
--- `printing::put_form` meets its contract: the invariant holds at first (`declaring-start` of FormLaws) and after each
--- definition, by the contract of `put_declarations` (`declaring-on`); past the last all are written (`declaring-done`).
+-- `printing::put_form` meets its contract: the invariant holds at first (`declaring_start` of FormLaws) and after each
+-- definition, by the contract of `put_declarations` (`declaring_on`); past the last all are written (`declaring_done`).
 -- Each of at most 64 adds at most 840000 bytes and 4294967296 particles, so that the places are in range.
 use borrow.Author.Rules.{rules}
 use Prim.Native.Nat.{◌-◌}

@@ -1,5 +1,5 @@
 -- `printing_parts::attribute` meets its contract: what `attribute_in` reads is record i of the attribute body
--- (`attribute-place` of PartLaws).
+-- (`attribute_place` of PartLaws).
 use mathlib.Core.Path.{◌∙◌}
 use Rattle.printing_parts.proofs.PartLaws.{attribute_place}
 use borrow.Author.Rules.{rules}

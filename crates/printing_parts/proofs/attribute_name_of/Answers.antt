@@ -1,6 +1,6 @@
 -- `printing_parts::attribute_name_of` meets its contract: the case split is on the count: from it on the table has no
--- name (`attribute-none` of PartLaws), else the name of record i, no longer than 300 bytes (`attribute-name`,
--- `attribute-short`).
+-- name (`attribute_none` of PartLaws), else the name of record i, no longer than 300 bytes (`attribute_name_lem`,
+-- `attribute_short`).
 use mathlib.Core.Path.{sym, ap, ◌∙◌, subst}
 use mathlib.Core.List.{List}
 use Prim.Native.Nat.{ℕ, ◌≤◌}

@@ -1,5 +1,5 @@
 -- `printing_parts::definition` meets its contract: what `definition_in` reads is record i of the definition body
--- (`definition-place` of PartLaws).
+-- (`definition_place` of PartLaws).
 use mathlib.Core.Path.{◌∙◌}
 use Rattle.printing_parts.proofs.PartLaws.{definition_place}
 use borrow.Author.Rules.{rules}

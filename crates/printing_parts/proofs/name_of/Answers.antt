@@ -1,6 +1,6 @@
 -- `printing_parts::name_of` meets its contract: the case split is on the count: from it on the table has no name
--- (`definition-none` of PartLaws), else the name of record i, no longer than 300 bytes (`definition-name`,
--- `definition-short`).
+-- (`definition_none` of PartLaws), else the name of record i, no longer than 300 bytes (`definition_name_lem`,
+-- `definition_short`).
 use mathlib.Core.Path.{sym, ap, ◌∙◌, subst}
 use mathlib.Core.List.{List}
 use Prim.Native.Nat.{ℕ, ◌≤◌}

@@ -1,5 +1,5 @@
 -- `printing_parts::particle` meets its contract: what `particle_in` reads is record i of the particle body
--- (`particle-place` of PartLaws).
+-- (`particle_place` of PartLaws).
 use mathlib.Core.Path.{◌∙◌}
 use Rattle.printing_parts.proofs.PartLaws.{particle_place}
 use borrow.Author.Rules.{rules}

@@ -1,6 +1,6 @@
 -- `quantifier_calls::requantify` meets its contract: the returns are for a bad store (`bad` of CallLaws), a
--- condition (`turned-away`) and the answer of `edit_model` (`given-answers` of Requantified); what the calls
--- require is by `given` of Fitting, `owner-fits` of Fits, `edits-there` of Answering, `given-stands` and `given-sized`.
+-- condition (`turned_away`) and the answer of `edit_model` (`given_answers` of Requantified); what the calls
+-- require is by `given` of Fitting, `owner_fits` of Fits, `edits_there` of Answering, `given_stands` and `given_sized`.
 use mathlib.Core.Bool.{not}
 use native.Mathlib.Omega.{arith}
 use mathlib.Core.Path.{sym, ◌∙◌, ap}

@@ -1,5 +1,5 @@
 -- `quantifier_plans::group_span` meets its contract: the particle itself and the deeper ones right after it, which
--- `span` counts, are `groupSpan` (`span-is` of PlanLaws); those are at most 255 (`span-low`).
+-- `span` counts, are `group_span` (`span_is` of PlanLaws); those are at most 255 (`span_low`).
 use native.Mathlib.Omega.{arith}
 use Rattle.quantifier_plans.proofs.PlanLaws.{span_low, span_is}
 use borrow.Author.Rules.{rules}

@@ -1,4 +1,4 @@
--- `quantifier_refusals::cuts` meets its contract: the two answers of `many` make up `cuts` (`cuts-read` of
+-- `quantifier_refusals::cuts` meets its contract: the two answers of `many` make up `cuts` (`cuts_read` of
 -- QuantifierLaws).
 use Rattle.quantifier_refusals.proofs.QuantifierLaws.{cuts_read}
 use borrow.Author.Rules.{rules}

@@ -1,5 +1,5 @@
 -- `quantifier_refusals::early_refusal` meets its contract: each return is the first of the refusals 3, 4 and 6 that
--- applies, or 0 (`early-3`, `early-4`, `early-6`, `early-0` of QuantifierLaws).
+-- applies, or 0 (`early_3`, `early_4`, `early_6`, `early_0` of QuantifierLaws).
 use mathlib.Core.Path.{ap}
 use mathlib.Core.Bool.{not}
 use native.Mathlib.Omega.{arith}

@@ -1,4 +1,4 @@
--- `quantifier_refusals::gains` meets its contract: the two answers of `skips` make up `gains` (`gains-read` of
+-- `quantifier_refusals::gains` meets its contract: the two answers of `skips` make up `gains` (`gains_read` of
 -- QuantifierLaws).
 use Rattle.quantifier_refusals.proofs.QuantifierLaws.{gains_read}
 use borrow.Author.Rules.{rules}

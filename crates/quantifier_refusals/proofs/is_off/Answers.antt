@@ -1,4 +1,4 @@
--- `quantifier_refusals::is_off` meets its contract: the answers of `relaxes` and `cuts` make up `isOff` (`off-read` of
+-- `quantifier_refusals::is_off` meets its contract: the answers of `relaxes` and `cuts` make up `is_off` (`off_read` of
 -- QuantifierLaws).
 use Rattle.quantifier_refusals.proofs.QuantifierLaws.{off_read}
 use borrow.Author.Rules.{rules}

@@ -1,5 +1,5 @@
--- `quantifier_refusals::quantifier_at` meets its contract: refusal 12 applies (`at-12` of QuantifierLaws), or none does
--- as the quantifier goes with instances (`at-fine`), or 13 applies if there is an instance (`at-exists`).
+-- `quantifier_refusals::quantifier_at` meets its contract: refusal 12 applies (`at_12` of QuantifierLaws), or none does
+-- as the quantifier goes with instances (`at_fine`), or 13 applies if there is an instance (`at_exists`).
 use mathlib.Core.Path.{ap}
 use mathlib.Core.Bool.{not}
 use Rattle.instance_search.specs.Instances.{has_instance}

@@ -1,6 +1,6 @@
 -- `quantifier_refusals::requantify_refusal` meets its contract: each return gives the first condition that holds: 3, 4
--- or 6 (`requantify-early` of QuantifierLaws), 8 at no particle or one of the other sort (`requantify-none`,
--- `group-element`, `element-group`), else what `quantifier_at` gives, with the place (`element-there`, `group-there`).
+-- or 6 (`requantify_early` of QuantifierLaws), 8 at no particle or one of the other sort (`requantify_none`,
+-- `group_element`, `element_group`), else what `quantifier_at` gives, with the place (`element_there`, `group_there`).
 use native.Mathlib.Omega.{arith}
 use Rattle.store_check.proofs.StoreFacts.{whole}
 use borrow.Author.Tests.{not-true, not-false}

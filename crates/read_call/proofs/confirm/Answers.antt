@@ -1,5 +1,5 @@
--- `read_call::confirm` meets its contract: a form that does not pass is not confirmed (`confirm-bad` of CallLaws), one
--- that passes is if it is the front of the text (`confirm-front`).
+-- `read_call::confirm` meets its contract: a form that does not pass is not confirmed (`confirm_bad` of CallLaws), one
+-- that passes is if it is the front of the text (`confirm_front`).
 use mathlib.Core.Bool.{not}
 use borrow.Author.Rules.{rules}
 use borrow.Author.Tests.{not-false}

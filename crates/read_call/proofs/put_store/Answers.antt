@@ -1,6 +1,6 @@
 -- `read_call::put_store` meets its contract: the bytes between the header and the first row are the form's own
--- (`own-form` of FormLaws in `store_laws`), as `put_form` requires (`heads-of` of EditedLaws in `plan_writer`); header,
--- form and the rows behind them are the store of both (`stored-documents` of CallLaws).
+-- (`own_form` of FormLaws in `store_laws`), as `put_form` requires (`heads_of` of EditedLaws in `plan_writer`); header,
+-- form and the rows behind them are the store of both (`stored_documents` of CallLaws).
 use native.Mathlib.Omega.{arith}
 use borrow.Author.Rules.{rules}
 use Rattle.layout.proofs.LayoutLaws.{width_within}

@@ -1,5 +1,5 @@
--- `read_call::read_documents` meets its contract: documents that do not stand are refused with 19 (`answer-bad` of
--- CallLaws), a store that has no room with 18 (`answer-short`), any other is written whole (`answer-all`).
+-- `read_call::read_documents` meets its contract: documents that do not stand are refused with 19 (`answer_bad` of
+-- CallLaws), a store that has no room with 18 (`answer_short`), any other is written whole (`answer_all`).
 use mathlib.Core.Path.{ap}
 use mathlib.Core.Bool.{not}
 use native.Mathlib.Omega.{arith}

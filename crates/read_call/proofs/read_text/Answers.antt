@@ -1,7 +1,7 @@
 -- `read_call::read_text` meets its contract: where no form is read, or it is not confirmed, the text is refused with 19
--- (`none_read`, `form-refused`, `promised-bad` of TextLaws); else the answer for the documents is the call's
--- (`promised-on`). What is lent of the local array is the form (`array-room`, `array-lent`), and has no rows
--- (`array-bare`).
+-- (`none_read`, `form_refused`, `promised_bad` of TextLaws); else the answer for the documents is the call's
+-- (`promised_on`). What is lent of the local array is the form (`array_room`, `array_lent`), and has no rows
+-- (`array_bare`).
 use mathlib.Core.Path.{ap}
 use mathlib.Core.Bool.{not}
 use native.Mathlib.Omega.{arith}

@@ -1,5 +1,5 @@
 -- `records::attribute_fits` meets its contract: the owner, the sort, the length and the value that are read are the
--- record's, so the five tests are those of `attributeFits` (`attribute-of` of CodeLaws).
+-- record's, so the five tests are those of `attribute_fits` (`attribute_of_lem` of CodeLaws).
 use Rattle.records.proofs.CodeLaws.{attribute_of_lem}
 use Rattle.records.proofs.attribute_fits.Goals as goal
 

@@ -1,6 +1,6 @@
 -- `records::attributes_fit` meets its contract: a record for which `attribute_fits` is false makes the answer false
--- (`each-off` of CodeLaws), any other leaves it to those after it (`each_on`), and with no record left it is true
--- (`each-end`).
+-- (`each_off` of CodeLaws), any other leaves it to those after it (`each_on`), and with no record left it is true
+-- (`each_end`).
 use Prim.Native.Nat.{ℕ, min}
 use mathlib.Core.Path.{ap, ◌∙◌}
 use lib.ListN.{length, take}

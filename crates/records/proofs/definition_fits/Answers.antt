@@ -1,5 +1,5 @@
 -- `records::definition_fits` meets its contract: the kind and the number of particles that are read are the record's,
--- so the tests are those of `definitionFits` (`definition-of` of CodeLaws).
+-- so the tests are those of `definition_fits` (`definition_of_lem` of CodeLaws).
 use Rattle.records.proofs.CodeLaws.{definition_of_lem}
 use Rattle.records.proofs.definition_fits.Goals as goal
 

@@ -1,6 +1,6 @@
 -- `records::definitions_fit` meets its contract: a record for which `definition_fits` is false makes the answer false
--- (`each-off` of CodeLaws), any other leaves it to those after it (`each_on`), and with no record left it is true
--- (`each-end`).
+-- (`each_off` of CodeLaws), any other leaves it to those after it (`each_on`), and with no record left it is true
+-- (`each_end`).
 use Rattle.records.proofs.CodeLaws.{each_on, each_off, each_end}
 use Rattle.records.specs.Records.{definition_fits}
 use Rattle.rules.specs.Layout.{definition_size}

@@ -1,4 +1,4 @@
--- `records::filled` meets its contract: more used bytes than the field has do not fit (`filled-wide` of CodeLaws); else
+-- `records::filled` meets its contract: more used bytes than the field has do not fit (`filled_wide` of CodeLaws); else
 -- the bytes tested for zeros are those of the field after the used ones (`filled_of`).
 use mathlib.Core.Path.{sym}
 use native.Mathlib.Omega.{arith}

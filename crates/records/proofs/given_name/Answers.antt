@@ -1,5 +1,5 @@
 -- `records::given_name` meets its contract: what `stored_name` and `is_reserved` answer are the two tests of
--- `givenName`.
+-- `given_name`.
 use mathlib.Core.Path.{ap₂}
 use mathlib.Core.Bool.{Bool, ◌&&◌, not}
 use Rattle.records.proofs.given_name.Goals as goal

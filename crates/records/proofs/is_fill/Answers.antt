@@ -1,5 +1,5 @@
--- `records::is_fill` meets its contract: each return is the clause of `isFill` for its sort (`none-long` of
--- BooleanLaws, `fill-any` of CodeLaws).
+-- `records::is_fill` meets its contract: each return is the clause of `is_fill` for its sort (`none_long` of
+-- BooleanLaws, `fill_any` of CodeLaws).
 use mathlib.Core.Path.{sym, ap, ◌∙◌}
 use Prim.Native.Nat.{ℕ}
 use mathlib.Core.Bool.{not}

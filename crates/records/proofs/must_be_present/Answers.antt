@@ -1,4 +1,4 @@
--- `records::must_be_present` meets its contract: only the code 1 is that of a sort that must be present (`is-required`
+-- `records::must_be_present` meets its contract: only the code 1 is that of a sort that must be present (`is_required`
 -- of SortLaws).
 use Rattle.records.proofs.SortLaws.{is_required}
 use Rattle.records.proofs.must_be_present.Goals as goal

@@ -1,5 +1,5 @@
--- `records::name_fits` meets its contract: past the end there is no name (`name-past` of CodeLaws); else the bytes read
--- are those used after the length, so the two tests are `nameFits` (`name-fits-of`).
+-- `records::name_fits` meets its contract: past the end there is no name (`name_past` of CodeLaws); else the bytes read
+-- are those used after the length, so the two tests are `name_fits` (`name_fits_of`).
 use mathlib.Core.Path.{sym, ◌∙◌}
 use Rattle.records.proofs.CodeLaws.{name_past, name_fits_of}
 use Rattle.records.proofs.name_fits.Goals as goal

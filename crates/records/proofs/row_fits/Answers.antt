@@ -1,6 +1,6 @@
--- `records::row_fits` meets its contract: each return is a case of `rowFits`: unused bytes are not zeros (`row-used` of
--- CodeLaws), an element has a value (`row-valued`) or none (`row-bare`), the row is neither an attribute nor a text
--- with index 0 (`row-neither`), its bytes are no value (`row-no-value`) or are one (`row-value`).
+-- `records::row_fits` meets its contract: each return is a case of `row_fits`: unused bytes are not zeros (`row_used`
+-- of CodeLaws), an element has a value (`row_valued`) or none (`row_bare`), the row is neither an attribute nor a text
+-- with index 0 (`row_neither`), its bytes are no value (`row_no_value`) or are one (`row_value`).
 use Rattle.records.proofs.CodeLaws.{row_used, row_valued, row_bare, row_neither, row_no_value, row_value}
 use Rattle.records.proofs.row_fits.Goals as goal
 

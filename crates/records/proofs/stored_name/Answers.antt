@@ -1,5 +1,5 @@
--- `records::stored_name` meets its contract: no bytes are no name (`name-none` of CodeLaws); else the three tests are
--- those of `storedName` (`name-of`).
+-- `records::stored_name` meets its contract: no bytes are no name (`name_none` of CodeLaws); else the three tests are
+-- those of `stored_name` (`name_of_lem`).
 use mathlib.Core.Path.{sym}
 use Rattle.records.proofs.CodeLaws.{name_none, name_of_lem}
 use Rattle.records.proofs.stored_name.Goals as goal

@@ -1,5 +1,5 @@
--- `records::value_allowed` meets its contract: a sort below 2 allows every value (`allows-any` of SortLaws), another
--- only its fill (`allows-fixed`).
+-- `records::value_allowed` meets its contract: a sort below 2 allows every value (`allows_any` of SortLaws), another
+-- only its fill (`allows_fixed`).
 use mathlib.Core.Path.{◌∙◌}
 use native.Mathlib.Omega.{arith}
 use Rattle.records.proofs.SortLaws.{allows_any, allows_fixed}

@@ -1,5 +1,5 @@
--- `records::value_fits` meets its contract: the bytes read are those used at `at`, so the two tests are `valueFits`
--- (`value-fits-of` of CodeLaws).
+-- `records::value_fits` meets its contract: the bytes read are those used at `at`, so the two tests are `value_fits`
+-- (`value_fits_of` of CodeLaws).
 use Rattle.records.proofs.CodeLaws.{value_fits_of}
 use Rattle.records.proofs.value_fits.Goals as goal
 

@@ -1,6 +1,6 @@
 -- `remove_call::remove_element` meets its contract: the call is refused on a bad store and by a condition
--- (`bad`, `turned-away` of CallLaws). Else an element stands at the place (`remove-fits` of Removing), and
--- `edit_model` writes what the change leaves (`removed-answers`).
+-- (`bad`, `turned_away` of CallLaws). Else an element stands at the place (`remove_fits` of Removing), and
+-- `edit_model` writes what the change leaves (`removed_answers`).
 use mathlib.Core.Bool.{not}
 use mathlib.Core.Path.{refl, sym, ◌∙◌, ap}
 use lib.ListN.{length}

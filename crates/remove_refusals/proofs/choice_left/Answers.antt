@@ -1,5 +1,5 @@
 -- `remove_refusals::choice_left` meets its contract: the three answers, of the CHOICE's own quantifier, of the members
--- before the element and of those after it, make up `choiceLeft` (`left-read` of RemoveLaws).
+-- before the element and of those after it, make up `choice_left` (`left_read` of RemoveLaws).
 use Rattle.remove_refusals.proofs.RemoveLaws.{left_read}
 use native.Mathlib.Omega.{arith}
 use borrow.Author.Rules.{rules}

@@ -1,6 +1,6 @@
--- `remove_refusals::remove_at` meets its contract: refusal 14 applies (`at-14` of RemoveLaws), or none does, in a
--- LIST (`at-list`) or where the CHOICE that is left accepts nothing (`at_left`), or 15 applies if there is an
--- instance (`at-exists`).
+-- `remove_refusals::remove_at` meets its contract: refusal 14 applies (`at_14` of RemoveLaws), or none does, in a
+-- LIST (`at_list`) or where the CHOICE that is left accepts nothing (`at_left`), or 15 applies if there is an
+-- instance (`at_exists`).
 use Rattle.remove_refusals.proofs.RemoveLaws.{at_14, at_list, at_left, at_exists}
 use Rattle.instance_search.specs.Instances.{has_instance}
 use mathlib.Core.Path.{sym, ◌∙◌}

@@ -1,6 +1,6 @@
--- `remove_refusals::remove_element_refusal` meets its contract: each return is the first condition of `removeElement`
--- that holds: 6 (`remove-6` of RemoveLaws), 8 where nothing or a group is picked (`remove-none`, `remove-group`), else
--- that of `remove_at` (`removable`, `remove-there`), with its place (`refused-there`, `located-there` of PickLaws).
+-- `remove_refusals::remove_element_refusal` meets its contract: each return is the first condition of `remove_element`
+-- that holds: 6 (`remove_6` of RemoveLaws), 8 where nothing or a group is picked (`remove_none`, `remove_group`), else
+-- that of `remove_at` (`removable`, `remove_there`), with its place (`refused_there`, `located_there` of PickLaws).
 use native.Mathlib.Omega.{arith}
 use Rattle.store_check.proofs.StoreFacts.{whole, past_definitions}
 use Rattle.model_places.proofs.PickLaws.{as_element, as_group, as_none, refused_there, located_there}

@@ -1,4 +1,4 @@
--- `resume::askable` meets its contract: the tests bound the counts (`few-in` of Laws) and the rows (`rows-there`).
+-- `resume::askable` meets its contract: the tests bound the counts (`few_in` of Laws) and the rows (`rows_there`).
 use borrow.Author.Rules.{rules}
 use native.Mathlib.Omega.{arith}
 use mathlib.Core.Bool.{false≢true}

@@ -1,5 +1,5 @@
--- `resume::same_answers` meets its contract: the places go up to the number of rows, and no more answers than places are
--- the same.
+-- `resume::same_answers` meets its contract: the places go up to the number of rows, and no more answers than places
+-- are the same.
 use Prim.Native.Nat.{◌≤◌, ◌+◌, ◌-◌}
 use native.Mathlib.Omega.{arith}
 use mathlib.Core.Logic.{⊎_elim}

@@ -1,5 +1,5 @@
--- `resume::walk_first` meets its contract: it asks only where `askable` says yes, from a state of zeros (`start_fits` of
--- row_check's PassLaws).
+-- `resume::walk_first` meets its contract: it asks only where `askable` says yes, from a state of zeros (`start_fits`
+-- of row_check's PassLaws).
 use borrow.Author.Rules.{rules}
 use borrow.Author.Tests.{not-false}
 use Rattle.row_check.proofs.PassLaws.{start_fits}

@@ -1,6 +1,6 @@
 -- `row_bound::matching` meets its contract: each step counts the first row that is left if it is one of them, and so
--- keeps the invariant (`counting-step` of CountLaws), as that row is whole (`counting-first`). At the end no row is
--- left to count (`counting-end`).
+-- keeps the invariant (`counting_step` of CountLaws), as that row is whole (`counting_first`). At the end no row is
+-- left to count (`counting_end`).
 use mathlib.Core.Path.{sym}
 use native.Mathlib.Omega.{arith}
 use lib.Seq.{length-take-le}

@@ -1,6 +1,6 @@
--- `row_bound::most_added` meets its contract: nothing is added where the plan fills nothing (`bounds-none` of
--- BoundLaws) or a filling has no row (`bounds-empty`), else at most the rows of one filling at each place
--- (`bounds-places`), a product in range (`product-few`).
+-- `row_bound::most_added` meets its contract: nothing is added where the plan fills nothing (`bounds_none` of
+-- BoundLaws) or a filling has no row (`bounds_empty`), else at most the rows of one filling at each place
+-- (`bounds_places`), a product in range (`product_few`).
 use native.Mathlib.Omega.{arith}
 use borrow.Author.Tests.{not-true}
 use borrow.Author.Rules.{rules}

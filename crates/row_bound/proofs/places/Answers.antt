@@ -1,4 +1,4 @@
--- `row_bound::places` meets its contract: the rows that match, and one place more for the ground, are `placesIn`, at
+-- `row_bound::places` meets its contract: the rows that match, and one place more for the ground, are `places_in`, at
 -- most 4097 (`places_of` of CountLaws).
 use Rattle.rules.specs.Layout.{row_size}
 use Rattle.rules.specs.Decode.{read_row, read_many}

@@ -1,5 +1,5 @@
--- `row_check::answer_from` meets its contract: a walk that refuses gives the answer false (`answer-refused` of PassLaws),
--- and after one that does not `walk_ends` gives it (`answer-ended`).
+-- `row_check::answer_from` meets its contract: a walk that refuses gives the answer false (`answer_refused` of
+-- PassLaws), and after one that does not `walk_ends` gives it (`answer_ended`).
 use borrow.Author.Rules.{rules}
 use borrow.Author.Tests.{not-true, not-false}
 use Rattle.row_check.proofs.PassLaws.{answer_refused, answer_ended}

@@ -1,5 +1,5 @@
--- `row_check::lay_table` meets its contract: the counts of the shape are those of the bytes (`few-cut` of BytesLaws),
--- and the table of the bodies that are cut out is that of the bytes (`table-cut`).
+-- `row_check::lay_table` meets its contract: the counts of the shape are those of the bytes (`few_cut` of BytesLaws),
+-- and the table of the bodies that are cut out is that of the bytes (`table_cut`).
 use borrow.Author.Rules.{rules}
 use Rattle.row_check.proofs.BytesLaws.{few_cut, table_cut}
 use Rattle.row_check.proofs.lay_table.Goals as goal

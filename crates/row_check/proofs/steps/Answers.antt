@@ -1,6 +1,6 @@
--- `row_check::steps` meets its contract: a row that may not make its step ends the walk with none (`steps-refused` of
+-- `row_check::steps` meets its contract: a row that may not make its step ends the walk with none (`steps_refused` of
 -- PassLaws), any other keeps the invariant (`steps_on`), and with no row left the state reached is that of the walk
--- (`steps-end`). Room for the rows left is room for the first (`room-first` of LayoutLaws in `layout`), so the slices
+-- (`steps_end`). Room for the rows left is room for the first (`room_first` of LayoutLaws in `layout`), so the slices
 -- are in range.
 use native.Mathlib.Omega.{arith}
 use mathlib.Core.Path.{◌≡◌, refl, sym}

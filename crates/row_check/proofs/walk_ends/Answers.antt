@@ -1,5 +1,5 @@
 -- `row_check::walk_ends` meets its contract: what `end` asks of the bodies that are cut out follows from the bytes
--- (`tabled-cut` of BytesLaws), and what it answers is said of the bytes (`end-cut`).
+-- (`tabled_cut` of BytesLaws), and what it answers is said of the bytes (`end_cut`).
 use borrow.Author.Rules.{rules}
 use Rattle.row_check.proofs.BytesLaws.{tabled_cut, end_cut}
 use Rattle.row_check.proofs.walk_ends.Goals as goal

@@ -1,5 +1,5 @@
 -- `row_check::walk_rows` meets its contract: what `steps` asks of the bodies that are cut out follows from the bytes
--- (`tabled-cut`, `room_cut` of BytesLaws), and what it leaves is said of the bytes (`walk-cut`).
+-- (`tabled_cut`, `room_cut` of BytesLaws), and what it leaves is said of the bytes (`walk_cut`).
 use borrow.Author.Rules.{rules}
 use Rattle.row_check.proofs.BytesLaws.{tabled_cut, room_cut, walk_cut}
 use Rattle.row_check.proofs.walk_rows.Goals as goal

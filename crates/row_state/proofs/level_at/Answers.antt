@@ -1,5 +1,5 @@
 -- `row_state::level_at` meets its contract: the case split is on whether k is 0, the place of the documents
--- (`level-ground` of LevelLaws), or an open element's (`level-inside`).
+-- (`level_ground` of LevelLaws), or an open element's (`level_inside`).
 use borrow.Author.Rules.{rules}
 use Rattle.row_state.proofs.LevelLaws.{level_ground, level_inside}
 use Rattle.row_state.proofs.level_at.Goals as goal

@@ -1,5 +1,5 @@
--- `row_state::seen_at` meets its contract: the case split is on whether the element is the innermost (`seen-inner` of
--- LevelLaws) or not (`seen-outer`).
+-- `row_state::seen_at` meets its contract: the case split is on whether the element is the innermost (`seen_inner` of
+-- LevelLaws) or not (`seen_outer`).
 use borrow.Author.Rules.{rules}
 use Rattle.row_state.proofs.LevelLaws.{seen_inner, seen_outer}
 use Rattle.row_state.proofs.seen_at.Goals as goal

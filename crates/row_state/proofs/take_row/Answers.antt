@@ -1,5 +1,5 @@
 -- `row_state::take_row` meets its contract: each return is a case of `stepped`, by the row's sort: an element's
--- (`took-element` of TakenLaws), an attribute's (`took-attribute`) or a text's (`took-text`).
+-- (`took_element` of TakenLaws), an attribute's (`took_attribute`) or a text's (`took_text`).
 use native.Mathlib.Omega.{arith}
 use borrow.Author.Rules.{rules}
 use Rattle.row_state.proofs.TakenLaws.{took_element, took_attribute, took_text}

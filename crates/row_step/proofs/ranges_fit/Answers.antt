@@ -1,6 +1,6 @@
--- `row_step::ranges_fit` meets its contract: each return is a case of `serialFits` or of `elementFits`: the serial is 0
--- (`ranges-none` of StepLaws), it is not below the next one (`ranges-over`), or it fits, where the row is no element's
--- (`ranges-other`) or one's (`ranges-element`).
+-- `row_step::ranges_fit` meets its contract: each return is a case of `serial_fits` or of `element_fits`: the serial is
+-- 0 (`ranges_none` of StepLaws), it is not below the next one (`ranges_over`), or it fits, where the row is no
+-- element's (`ranges_other`) or one's (`ranges_element`).
 use native.Mathlib.Omega.{arith}
 use borrow.Author.Rules.{rules}
 use Rattle.row_step.proofs.StepLaws.{ranges_none, ranges_over, ranges_other, ranges_element}

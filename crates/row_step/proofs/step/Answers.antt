@@ -1,7 +1,7 @@
--- `row_step::step` meets its contract: each return is a case of `mayStep`: no level of this depth is open (`step-deep`
--- of StepLaws), the row's serial is out of range or an element does not fit (`step-ranges`), a deeper level is owed something
--- (`step-owes`), the row does not fit or may not come next (`step-not`), or the step is made (`step-goes`), for which
--- the state has room (`step_room`).
+-- `row_step::step` meets its contract: each return is a case of `may_step`: no level of this depth is open (`step_deep`
+-- of StepLaws), the row's serial is out of range or an element does not fit (`step_ranges`), a deeper level is owed
+-- something (`step_owes`), the row does not fit or may not come next (`step_not`), or the step is made (`step_goes`),
+-- for which the state has room (`step_room`).
 use native.Mathlib.Omega.{arith}
 use borrow.Author.Tests.{not-true, not-false}
 use borrow.Author.Rules.{rules}

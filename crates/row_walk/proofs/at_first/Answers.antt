@@ -1,5 +1,5 @@
 -- `row_walk::at_first` meets its contract: the case split is on the variant of `above`, that of `Ground`
--- (`first-ground` of RowLaws) or another (`first-other`).
+-- (`first_ground` of RowLaws) or another (`first_other`).
 use Rattle.row_walk.proofs.RowLaws.{first_ground, first_other}
 use mathlib.Core.Path.{refl}
 use mathlib.Core.List.{[]}

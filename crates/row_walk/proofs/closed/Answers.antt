@@ -1,4 +1,4 @@
--- `row_walk::closed` meets its contract: the case split is on what `closes` answers (`closed_all`, `closed-not` of
+-- `row_walk::closed` meets its contract: the case split is on what `closes` answers (`closed_all`, `closed_not` of
 -- RowLaws).
 use Rattle.row_walk.proofs.RowLaws.{closed_all, closed_not}
 use borrow.Author.Rules.{rules}

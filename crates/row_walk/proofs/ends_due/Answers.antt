@@ -1,5 +1,5 @@
 -- `row_walk::ends_due` meets its contract: right below the open row, if its filling is due, the return is the answer of
--- `is_later` (`ends_at` of RowLaws), and else `endsDue` is false (`ends-not`).
+-- `is_later` (`ends_at` of RowLaws), and else `ends_due` is false (`ends_not`).
 use Rattle.row_walk.proofs.RowLaws.{ends_at, ends_not}
 use Rattle.row_walk.specs.Lent.{plan_in}
 use borrow.Author.Rules.{rules}

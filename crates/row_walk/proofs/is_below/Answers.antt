@@ -1,4 +1,4 @@
--- `row_walk::is_below` meets its contract: the test is the definition of `isBelow`, with `depth + 1` for `suc depth`
+-- `row_walk::is_below` meets its contract: the test is the definition of `is_below`, with `depth + 1` for `suc depth`
 -- (`add-one` of native.Mathlib.Numerals).
 use Prim.Native.Nat.{ℕ}
 use native.Mathlib.Numerals.{add-one}

@@ -1,5 +1,5 @@
--- `row_walk::is_filled` meets its contract: the return is `isFilled` but for the answers of `is_below`, `is_later` and
--- `spared`, which by their contracts are those that it joins (`filled-by` of RowLaws).
+-- `row_walk::is_filled` meets its contract: the return is `is_filled` but for the answers of `is_below`, `is_later` and
+-- `spared`, which by their contracts are those that it joins (`filled_by` of RowLaws).
 use Rattle.row_walk.proofs.RowLaws.{filled_by}
 use Rattle.row_walk.specs.Lent.{plan_in}
 use borrow.Author.Rules.{rules}

@@ -1,5 +1,5 @@
--- `row_walk::is_later` meets its contract: in the arms 0, 1 and 2 the return is the clause of `isLater` for that
--- variant, and every other number is that of `Unmarked` (`later-unmarked` of RowLaws), whose clause tests the mark that
+-- `row_walk::is_later` meets its contract: in the arms 0, 1 and 2 the return is the clause of `is_later` for that
+-- variant, and every other number is that of `Unmarked` (`later_unmarked` of RowLaws), whose clause tests the mark that
 -- `codec::byte` reads.
 use native.Mathlib.Omega.{arith}
 use Rattle.row_walk.proofs.RowLaws.{later_unmarked}

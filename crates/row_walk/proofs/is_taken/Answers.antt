@@ -1,5 +1,5 @@
 -- `row_walk::is_taken` meets its contract: the return is `is_taken` but for the test of variant 1, which is
--- `isEverything` (`everything-is` of RowLaws), and for the answers of `is_below` and `matches` (`taken-by`).
+-- `is_everything` (`everything_is` of RowLaws), and for the answers of `is_below` and `matches` (`taken_by`).
 use lib.ListN.{get_or}
 use Rattle.row_walk.proofs.RowLaws.{everything_is, taken_by}
 use mathlib.Core.List.{[]}

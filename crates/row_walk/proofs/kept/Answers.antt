@@ -1,5 +1,5 @@
 -- `row_walk::kept` meets its contract: the case split is on what `matches` answers for `above`: the row is open after
--- it (`kept-opens` of RowLaws), or what was open stays so, with `due` (`kept_on`).
+-- it (`kept_opens` of RowLaws), or what was open stays so, with `due` (`kept_on`).
 use Rattle.row_walk.proofs.RowLaws.{kept_opens, kept_on}
 use mathlib.Core.List.{[]}
 use Rattle.row_walk.specs.Lent.{plan_in}

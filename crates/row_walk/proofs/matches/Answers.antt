@@ -1,5 +1,5 @@
 -- `row_walk::matches` meets its contract: in the arms 0 to 4 the return is the clause of `matches` for that variant,
--- and every other number is that of `Serial` (`which-serial` of RowLaws).
+-- and every other number is that of `Serial` (`which_serial` of RowLaws).
 use native.Mathlib.Omega.{arith}
 use Rattle.row_walk.proofs.RowLaws.{which_serial}
 use borrow.Author.Rules.{rules}

@@ -1,6 +1,6 @@
 -- `row_walk::moved_index` meets its contract: the case split is on the row's sort: the index of an element moves as
--- definitions do (`moved-element` of RowLaws), that of an attribute as attributes do (`moved-attribute`), and that of a
--- text stays (`moved-text`); all three also bound the result by 2000.
+-- definitions do (`moved_element` of RowLaws), that of an attribute as attributes do (`moved_attribute_lem`), and that
+-- of a text stays (`moved_text`); all three also bound the result by 2000.
 use Rattle.row_walk.proofs.RowLaws.{moved_element, moved_attribute_lem, moved_text}
 use mathlib.Core.List.{[]}
 use Rattle.row_walk.specs.Lent.{plan_in}

@@ -1,5 +1,5 @@
--- `row_walk::shifted` meets its contract: the case split is on whether the index is moved (`shifted-on` of RowLaws) or
--- not (`shifted-not`); both also bound the result by 2000.
+-- `row_walk::shifted` meets its contract: the case split is on whether the index is moved (`shifted_on` of RowLaws) or
+-- not (`shifted_not`); both also bound the result by 2000.
 use Rattle.row_walk.proofs.RowLaws.{shifted_on, shifted_not}
 use mathlib.Core.Path.{refl}
 use borrow.Author.Rules.{rules}

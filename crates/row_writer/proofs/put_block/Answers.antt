@@ -1,6 +1,6 @@
 -- `row_writer::put_block` meets its contract: old rows are written with the bytes that they are read from, so that to
 -- lay the block is to write its rows (`block_written` of BlockLaws). The places of its bytes are in range
--- (`block-small`).
+-- (`block_small`).
 use Prim.Native.Nat.{ℕ, ◌*◌}
 use native.Mathlib.Omega.{arith}
 use mathlib.Core.Path.{ap, sym}

@@ -1,5 +1,5 @@
--- `row_writer::put_kept` meets its contract: where no row may be written any more the cursor stays (`written-stop` of
--- WrittenLaws), else the row that `put_row_moved` lays is written and keeps its serial (`old-written`).
+-- `row_writer::put_kept` meets its contract: where no row may be written any more the cursor stays (`written_stop` of
+-- WrittenLaws), else the row that `put_row_moved` lays is written and keeps its serial (`old_written`).
 use Rattle.row_writer.proofs.WrittenLaws.{written_stop, old_written}
 use borrow.Author.Rules.{rules}
 use Rattle.row_writer.proofs.put_kept.Goals as goal

@@ -1,5 +1,5 @@
--- `row_writer::put_new` meets its contract: where no row may be written any more the cursor stays (`written-stop` of
--- WrittenLaws), else the row that `put_row` lays is written with the cursor's serial (`new-written`).
+-- `row_writer::put_new` meets its contract: where no row may be written any more the cursor stays (`written_stop` of
+-- WrittenLaws), else the row that `put_row` lays is written with the cursor's serial (`new_written`).
 use Rattle.row_writer.proofs.WrittenLaws.{written_stop, new_written}
 use borrow.Author.Rules.{rules}
 use Rattle.row_writer.proofs.put_new.Goals as goal

@@ -1,5 +1,5 @@
--- `row_writer::put_valued` meets its contract: where no row may be written any more the cursor stays (`written-stop` of
--- WrittenLaws), else the row that `put_row_valued` lays is written and keeps its serial (`old-written`).
+-- `row_writer::put_valued` meets its contract: where no row may be written any more the cursor stays (`written_stop` of
+-- WrittenLaws), else the row that `put_row_valued` lays is written and keeps its serial (`old_written`).
 use Rattle.row_writer.proofs.WrittenLaws.{written_stop, old_written}
 use borrow.Author.Rules.{rules}
 use Rattle.row_writer.proofs.put_valued.Goals as goal

@@ -1,6 +1,6 @@
 -- `serial_check::put_in_tree` meets its contract: each return has its law in TreeLaws: the tree is empty, and row k is
--- its root (`put-root`); the walk meets a row with the serial (`put-twice`); or it comes to an empty place, where row k
--- is put (`put-below`). What stands below a row is of the first 4096, as `sought` requires (`rising-more`).
+-- its root (`put_root`); the walk meets a row with the serial (`put_twice`); or it comes to an empty place, where row k
+-- is put (`put_below`). What stands below a row is of the first 4096, as `sought` requires (`rising_more`).
 use Prim.Native.Nat.{◌%◌}
 use borrow.Author.Rules.{rules}
 use native.Mathlib.Omega.{arith}

@@ -1,6 +1,6 @@
--- `serial_check::serials_differ` meets its contract: a serial met before refutes the contract's test (`put-refutes` of
--- TreeLaws; `refuses` of SerialsLaws), another keeps the invariant (`trees-start`, `put-more`), and past the last row
--- the test holds (`trees-apart`; `accepts`).
+-- `serial_check::serials_differ` meets its contract: a serial met before refutes the contract's test (`put_refutes` of
+-- TreeLaws; `refuses` of SerialsLaws), another keeps the invariant (`trees_start`, `put_more`), and past the last row
+-- the test holds (`trees_apart`; `accepts`).
 use Prim.Native.Nat.{◌-◌}
 use borrow.Author.Rules.{rules}
 use borrow.Author.Tests.{not-true, not-false}

@@ -1,5 +1,5 @@
--- `serial_check::sought` meets its contract: the walk meets a row with the serial (`seek-meets` of TreeLaws), or comes
--- to an empty place (`seek-ends`), or goes on with the row that stands there (`seek-starts`, `seek-on`), whose number
+-- `serial_check::sought` meets its contract: the walk meets a row with the serial (`seek_meets` of TreeLaws), or comes
+-- to an empty place (`seek_ends`), or goes on with the row that stands there (`seek_starts`, `seek_on`), whose number
 -- `Rising` bounds.
 use mathlib.Core.Path.{sym, ◌∙◌}
 use Prim.Native.Nat.{suc, ◌-◌}

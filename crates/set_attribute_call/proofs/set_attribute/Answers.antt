@@ -1,6 +1,6 @@
 -- `set_attribute_call::set_attribute` meets its contract: the call is refused on a bad store and by a condition
--- (`bad`, `turned-away` of CallLaws). Else what its calls require holds (`set-attribute-there`, `set-attribute-asks` of
--- Laws), and the plan does what the change does (`set-attribute-planned` of CallsPlanned, `made-planned` of Calls).
+-- (`bad`, `turned_away` of CallLaws). Else what its calls require holds (`set_attribute_there`, `set_attribute_asks` of
+-- Laws), and the plan does what the change does (`set_attribute_planned` of CallsPlanned, `made_planned` of Calls).
 use mathlib.Core.Path.{ap}
 use mathlib.Core.Bool.{not}
 use borrow.Author.Rules.{rules}

@@ -1,5 +1,5 @@
 -- `sets::below` meets its contract: for `to` 64 all numbers of s are below it (`below_all` of Laws); else `bit` gives
--- `2 ^ to` (`bit_is`), and the divisor is not 0 (`bit-pos`).
+-- `2 ^ to` (`bit_is`), and the divisor is not 0 (`bit_pos`).
 use mathlib.Core.Path.{ap, ◌∙◌}
 use Prim.Native.Nat.{ℕ, ◌%◌}
 use Rattle.sets.proofs.Laws.{bit_is, bit_pos, below_all}

@@ -1,5 +1,5 @@
 -- `sets::contains` meets its contract: below 64 the test is the definition of `has`, and from 64 on nothing is in a set
--- of 64 digits (`has-past` of Laws).
+-- of 64 digits (`has_past` of Laws).
 use mathlib.Core.Path.{refl, sym}
 use Rattle.sets.specs.Sets.{has}
 use Rattle.sets.proofs.Laws.{has_past}

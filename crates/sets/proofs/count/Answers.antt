@@ -1,5 +1,5 @@
 -- `sets::count` meets its contract: the ones among the 64 digits of s are as many as the numbers below 64 that it has
--- (`ones-count` of Laws).
+-- (`ones_count` of Laws).
 use Rattle.sets.proofs.Laws.{ones_count}
 use Rattle.sets.proofs.count.Goals as goal
 

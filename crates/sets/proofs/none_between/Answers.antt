@@ -1,4 +1,4 @@
--- `sets::none_between` meets its contract: for `from` from 64 on no number is in the range (`none-past` of Laws); else
+-- `sets::none_between` meets its contract: for `from` from 64 on no number is in the range (`none_past` of Laws); else
 -- what `below` leaves, shifted by `from`, is 0 if and only if s has none of the range (`none_between`).
 use Rattle.sets.proofs.Laws.{none_between, none_past}
 use Rattle.sets.proofs.none_between.Goals as goal

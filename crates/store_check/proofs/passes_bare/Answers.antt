@@ -1,5 +1,5 @@
 -- `store_check::passes_bare` meets its contract: a header that does not fit refutes that the string passes (`headless`
--- of CallLaws), and where it fits and there are no rows the form decides (`bare-passed`).
+-- of CallLaws), and where it fits and there are no rows the form decides (`bare_passed`).
 use mathlib.Core.Path.{ap}
 use mathlib.Core.Bool.{not}
 use borrow.Author.Rules.{rules}

@@ -1,6 +1,6 @@
 -- `store_limits::limit` meets its contract: each return is the first limit that is passed, or 0: 16 for the rows
--- (`limit-ceiling` of WithinLaws), 17 for the serials (`limit-serials`), 18 for the bytes (`limit-buffer`), none
--- (`limit-none`); the bytes are by the contracts of `row_size`, `times` and `header_size`.
+-- (`limit_ceiling` of WithinLaws), 17 for the serials (`limit_serials`), 18 for the bytes (`limit_buffer`), none
+-- (`limit_none`); the bytes are by the contracts of `row_size`, `times` and `header_size`.
 use native.Mathlib.Omega.{arith}
 use mathlib.Core.Path.{ap, ◌∙◌}
 use Prim.Native.Nat.{ℕ, ◌*◌}

@@ -1,6 +1,6 @@
 -- `store_writer::edit` meets its contract: the bytes between the header and the first row are the store's own form
--- (`own-form`, `start-within` of FormLaws in `store_laws`), as `edit_form` requires (`forms-of`), and with it the store
--- is edited as `planned` says (`own-answers` of FormAnswers).
+-- (`own_form`, `start_within` of FormLaws in `store_laws`), as `edit_form` requires (`forms_of`), and with it the store
+-- is edited as `planned` says (`own_answers` of FormAnswers).
 use native.Mathlib.Omega.{arith}
 use lib.ListN.{length}
 use Rattle.store_laws.proofs.StoreLaws.{holds}

@@ -1,6 +1,6 @@
 -- `store_writer::edit_form` meets its contract: the case split is on the number of the first limit that is passed: if
--- there is one it is the answer (`edit-refused` of EditLaws), else the store is written (`edit-written`); the form is
--- no longer than `mostForm` (`form-short` of FormBytesLaws in `store_laws`).
+-- there is one it is the answer (`edit_refused` of EditLaws), else the store is written (`edit_written`); the form is
+-- no longer than `most_form` (`form_short` of FormBytesLaws in `store_laws`).
 use Rattle.layout.proofs.LayoutLaws.{width_within}
 use Rattle.store_laws.proofs.StoreLaws.{holds}
 use Rattle.store_writer.proofs.LimitLaws.{answers_as}

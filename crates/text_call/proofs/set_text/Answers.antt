@@ -1,6 +1,6 @@
--- `text_call::set_text` meets its contract: the call is refused on a bad store and by a condition (`bad`, `turned-away`
--- of CallLaws). Else what its calls require holds (`set-text-there`, `set-text-asks` of Laws), and the plan does what
--- the change does (`set-text-planned` of CallsPlanned, `made-planned` of Calls).
+-- `text_call::set_text` meets its contract: the call is refused on a bad store and by a condition (`bad`, `turned_away`
+-- of CallLaws). Else what its calls require holds (`set_text_there`, `set_text_asks` of Laws), and the plan does what
+-- the change does (`set_text_planned` of CallsPlanned, `made_planned` of Calls).
 use mathlib.Core.Path.{ap}
 use mathlib.Core.Bool.{not}
 use borrow.Author.Rules.{rules}

@@ -1,6 +1,6 @@
--- `text_scan::character_at` meets its contract: after a `&` it is what `escaped` says (`stands-escaped` of
--- UndoingLaws); of the other bytes three stand nowhere (`stands-refused`), and each of the rest for itself
--- (`stands-itself`).
+-- `text_scan::character_at` meets its contract: after a `&` it is what `escaped` says (`stands_escaped` of
+-- UndoingLaws); of the other bytes three stand nowhere (`stands_refused`), and each of the rest for itself
+-- (`stands_itself`).
 use native.Mathlib.Omega.{arith}
 use Rattle.text_scan.proofs.UndoingLaws.{stands_escaped, stands_refused, stands_itself}
 use Rattle.text_scan.proofs.character_at.Goals as goal

@@ -1,6 +1,6 @@
 -- `text_scan::escaped` meets its contract: the words are tried one after the other, and the first that the text begins
--- with says the byte (`stands-ampersand`, `stands-less`, `stands-greater`, `stands-quote` of UndoingLaws); after the
--- last none is left (`stands-none`).
+-- with says the byte (`stands_ampersand`, `stands_less`, `stands_greater`, `stands_quote` of UndoingLaws); after the
+-- last none is left (`stands_none`).
 use native.Mathlib.Omega.{arith}
 use Rattle.text_scan.proofs.UndoingLaws.{stands_ampersand, stands_less, stands_greater, stands_quote, stands_none}
 use Rattle.text_scan.proofs.escaped.Goals as goal

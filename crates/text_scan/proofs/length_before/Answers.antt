@@ -1,5 +1,5 @@
--- `text_scan::length_before` meets its contract: the byte at which the loop ends is the first `stop` (`counting-stop`
--- of LoopLaws), any other keeps the invariant (`counting-on`), and past the last byte all are counted (`counting-end`).
+-- `text_scan::length_before` meets its contract: the byte at which the loop ends is the first `stop` (`counting_stop`
+-- of LoopLaws), any other keeps the invariant (`counting_on`), and past the last byte all are counted (`counting_end`).
 use mathlib.Core.Path.{ap}
 use mathlib.Core.Bool.{not}
 use native.Mathlib.Omega.{arith}

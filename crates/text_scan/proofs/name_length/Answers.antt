@@ -1,6 +1,6 @@
 -- `text_scan::name_length` meets its contract: the byte at which the loop ends is the first that may not stand in a
--- name (`counting-stop` of LoopLaws), any other keeps the invariant (`counting-on`), and past the last byte all are
--- counted (`counting-end`).
+-- name (`counting_stop` of LoopLaws), any other keeps the invariant (`counting_on`), and past the last byte all are
+-- counted (`counting_end`).
 use mathlib.Core.Path.{sym, ◌∙◌}
 use native.Mathlib.Omega.{arith}
 use Rattle.rules.specs.WellFormed.{in_name}

@@ -1,6 +1,6 @@
 -- `text_scan::starts_with` meets its contract: a text that is shorter than the word does not begin with it
--- (`starts-short` of LoopLaws). Two bytes that differ settle it (`matching-off`), equal ones keep the invariant
--- (`matching-on`), and at the end no byte of the word is left (`matching-end`).
+-- (`starts_short` of LoopLaws). Two bytes that differ settle it (`matching_off`), equal ones keep the invariant
+-- (`matching_on`), and at the end no byte of the word is left (`matching_end`).
 use mathlib.Core.Path.{sym}
 use native.Mathlib.Omega.{arith}
 use Rattle.text_scan.proofs.LoopLaws.{starts_short, matching_start, matching_on, matching_off, matching_end}

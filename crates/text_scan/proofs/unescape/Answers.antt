@@ -1,6 +1,6 @@
--- `text_scan::unescape` meets its contract: a place where no escape stands settles it (`undoing-fault` of UndoingLaws),
--- any other byte that is stored keeps the invariant (`undoing-on`), and at the end all is stored (`undoing-end`). No
--- place reaches past the end of the text (`undoing-inside`), so that the loop ends there.
+-- `text_scan::unescape` meets its contract: a place where no escape stands settles it (`undoing_fault` of UndoingLaws),
+-- any other byte that is stored keeps the invariant (`undoing_on`), and at the end all is stored (`undoing_end`). No
+-- place reaches past the end of the text (`undoing_inside`), so that the loop ends there.
 use native.Mathlib.Omega.{arith}
 use Rattle.text_scan.proofs.UndoingLaws.{undoing_start, undoing_inside, undoing_on, undoing_fault, undoing_end}
 use Rattle.text_scan.proofs.unescape.Goals as goal

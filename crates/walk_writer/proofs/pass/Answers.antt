@@ -1,6 +1,6 @@
 -- `walk_writer::pass` meets its contract: if all rows that may be written stay as they are, the block is what was
--- passed (`passes-block` of WalkLaws), else the block and the row after it (`passes-row`); both are of an old store
--- (`rows-within`, `rows-old`, `rows_at`), and their sizes are in range (`size-split`, `block-small` of BlockLaws).
+-- passed (`passes_block` of WalkLaws), else the block and the row after it (`passes_row`); both are of an old store
+-- (`rows_within`, `rows_old`, `rows_at`), and their sizes are in range (`size_split`, `block_small` of BlockLaws).
 use Prim.Native.Nat.{ℕ, ◌-◌, ◌*◌, ◌≤◌}
 use native.Mathlib.Omega.{arith}
 use mathlib.Core.Path.{ap, refl}

@@ -1,5 +1,5 @@
 -- `walk_writer::put_owed` meets its contract: if the filling is due, `put_any` writes the rows of the plan's own, which
--- `filling_of` reads from its numbers (`owed-put` of StepLaws; `written_as` of WrittenLaws in `row_writer`), and else
+-- `filling_of` reads from its numbers (`owed_put` of StepLaws; `written_as` of WrittenLaws in `row_writer`), and else
 -- no row is written (`owed_none`).
 use Rattle.walk_writer.proofs.StepLaws.{owed_put, owed_none}
 use mathlib.Core.Path.{ap, sym, subst}

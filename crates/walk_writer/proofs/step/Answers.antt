@@ -1,6 +1,6 @@
 -- `walk_writer::step` meets its contract: a row below one that is taken gives no row and leaves open what is open
 -- (`step_gone` of StepLaws); else the filling that it closes, if due, and then what `come` writes are what comes of it
--- (`step-on`), with the head that was read (`seen`); the filling's depth is one at which it may be written (`asks_of`).
+-- (`step_on`), with the head that was read (`seen`); the filling's depth is one at which it may be written (`asks_of`).
 use native.Mathlib.Omega.{arith}
 use Rattle.walk_writer.specs.Step.{fill_in}
 use Rattle.row_walk.specs.Lent.{plan_in}

@@ -1,5 +1,5 @@
 -- `walk_writer::walk` meets its contract: the filling of `filling_with_rows` stands for that of the plan
--- (`walked-settled` of SettledLaws), and the walk may go with it (`ready-settled`); by `plan_numbers` its numbers are
+-- (`walked_settled` of SettledLaws), and the walk may go with it (`ready_settled`); by `plan_numbers` its numbers are
 -- that plan, so that `walk_lent` writes its rows (`written_as` of WrittenLaws); `filling_with_rows` may be called by
 -- `asks_of` of StepLaws.
 use native.Mathlib.Omega.{arith}

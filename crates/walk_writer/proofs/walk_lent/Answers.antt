@@ -1,6 +1,6 @@
 -- `walk_writer::walk_lent` meets its contract: the invariant holds before the first row (`going_start` of WalkLaws) and
--- after each pass (`going-pass`), whose bytes are there and few (`pass-long`, `pass-small`); it gives the contract
--- where no row may be written any more (`going-stop`), and past the last row by the filling still due (`going_end`).
+-- after each pass (`going_pass`), whose bytes are there and few (`pass_long`, `pass_small`); it gives the contract
+-- where no row may be written any more (`going_stop`), and past the last row by the filling still due (`going_end`).
 use mathlib.Core.Path.{refl, ◌∙◌}
 use native.Mathlib.Omega.{arith}
 use Rattle.rules.specs.Layout.{row_size}

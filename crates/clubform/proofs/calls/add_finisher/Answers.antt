@@ -1,5 +1,5 @@
 -- `clubform::calls::add_finisher` meets its contract: the rules, computed, say that this call on stage 8 writes stage 9
--- (`add-finisher` of `accepted` in Stages); so its number is 0, as `expect` requires, and the buffer holds stage 9
+-- (`add_finisher` of `accepted` in Stages); so its number is 0, as `expect` requires, and the buffer holds stage 9
 -- (`answered` of Laws).
 use borrow.Author.Rules.{rules}
 use Rattle.clubform.proofs.Stages.{accepted}

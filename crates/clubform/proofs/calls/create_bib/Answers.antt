@@ -1,5 +1,5 @@
 -- `clubform::calls::create_bib` meets its contract: the rules, computed, say that this call on stage 2 writes stage 3
--- (`create-bib` of `accepted` in Stages); so its number is 0, as `expect` requires, and the buffer holds stage 3
+-- (`create_bib` of `accepted` in Stages); so its number is 0, as `expect` requires, and the buffer holds stage 3
 -- (`answered` of Laws).
 use borrow.Author.Rules.{rules}
 use Rattle.clubform.proofs.Stages.{accepted}

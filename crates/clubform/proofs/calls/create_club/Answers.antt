@@ -1,5 +1,5 @@
 -- `clubform::calls::create_club` meets its contract: the rules, computed, say that this call on stage 10 writes stage
--- 11 (`create-club` of `accepted` in Stages); so its number is 0, as `expect` requires, and the buffer holds stage 11
+-- 11 (`create_club` of `accepted` in Stages); so its number is 0, as `expect` requires, and the buffer holds stage 11
 -- (`answered` of Laws).
 use borrow.Author.Rules.{rules}
 use Rattle.clubform.proofs.Stages.{accepted}

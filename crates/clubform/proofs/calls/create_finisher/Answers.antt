@@ -1,5 +1,5 @@
 -- `clubform::calls::create_finisher` meets its contract: the rules, computed, say that this call on stage 1 writes
--- stage 2 (`create-finisher` of `accepted` in Stages); so its number is 0, as `expect` requires, and the buffer holds
+-- stage 2 (`create_finisher` of `accepted` in Stages); so its number is 0, as `expect` requires, and the buffer holds
 -- stage 2 (`answered` of Laws).
 use borrow.Author.Rules.{rules}
 use Rattle.clubform.proofs.Stages.{accepted}

@@ -1,5 +1,5 @@
 -- `clubform::calls::create_race` meets its contract: the rules, computed, say that this call on stage 0 writes stage 1
--- (`create-race` of `accepted` in Stages); so its number is 0, as `expect` requires, and the buffer holds stage 1
+-- (`create_race` of `accepted` in Stages); so its number is 0, as `expect` requires, and the buffer holds stage 1
 -- (`answered` of Laws).
 use borrow.Author.Rules.{rules}
 use Rattle.clubform.proofs.Stages.{accepted}

@@ -1,5 +1,5 @@
 -- `clubform::calls::create_time` meets its contract: the rules, computed, say that this call on stage 3 writes stage 4
--- (`create-time` of `accepted` in Stages); so its number is 0, as `expect` requires, and the buffer holds stage 4
+-- (`create_time` of `accepted` in Stages); so its number is 0, as `expect` requires, and the buffer holds stage 4
 -- (`answered` of Laws).
 use borrow.Author.Rules.{rules}
 use Rattle.clubform.proofs.Stages.{accepted}

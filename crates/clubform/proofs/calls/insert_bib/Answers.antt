@@ -1,5 +1,5 @@
 -- `clubform::calls::insert_bib` meets its contract: the rules, computed, say that this call on stage 5 writes stage 6
--- (`insert-bib` of `accepted` in Stages); so its number is 0, as `expect` requires, and the buffer holds stage 6
+-- (`insert_bib` of `accepted` in Stages); so its number is 0, as `expect` requires, and the buffer holds stage 6
 -- (`answered` of Laws).
 use borrow.Author.Rules.{rules}
 use Rattle.clubform.proofs.Stages.{accepted}

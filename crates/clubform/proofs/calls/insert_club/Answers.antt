@@ -1,5 +1,5 @@
 -- `clubform::calls::insert_club` meets its contract: the rules, computed, say that this call on stage 11 writes stage
--- 12 (`insert-club` of `accepted` in Stages); so its number is 0, as `expect` requires, and the buffer holds stage 12
+-- 12 (`insert_club` of `accepted` in Stages); so its number is 0, as `expect` requires, and the buffer holds stage 12
 -- (`answered` of Laws).
 use borrow.Author.Rules.{rules}
 use Rattle.clubform.proofs.Stages.{accepted}

@@ -1,5 +1,5 @@
 -- `clubform::calls::insert_finisher` meets its contract: the rules, computed, say that this call on stage 4 writes
--- stage 5 (`insert-finisher` of `accepted` in Stages); so its number is 0, as `expect` requires, and the buffer holds
+-- stage 5 (`insert_finisher` of `accepted` in Stages); so its number is 0, as `expect` requires, and the buffer holds
 -- stage 5 (`answered` of Laws).
 use borrow.Author.Rules.{rules}
 use Rattle.clubform.proofs.Stages.{accepted}

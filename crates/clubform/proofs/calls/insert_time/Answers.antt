@@ -1,5 +1,5 @@
 -- `clubform::calls::insert_time` meets its contract: the rules, computed, say that this call on stage 6 writes stage 7
--- (`insert-time` of `accepted` in Stages); so its number is 0, as `expect` requires, and the buffer holds stage 7
+-- (`insert_time` of `accepted` in Stages); so its number is 0, as `expect` requires, and the buffer holds stage 7
 -- (`answered` of Laws).
 use borrow.Author.Rules.{rules}
 use Rattle.clubform.proofs.Stages.{accepted}

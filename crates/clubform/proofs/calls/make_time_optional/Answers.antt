@@ -1,5 +1,5 @@
 -- `clubform::calls::make_time_optional` meets its contract: the rules, computed, say that this call on stage 12 writes
--- stage 13 (`make-time-optional` of `accepted` in Stages); so its number is 0, as `expect` requires, and the buffer
+-- stage 13 (`make_time_optional` of `accepted` in Stages); so its number is 0, as `expect` requires, and the buffer
 -- holds stage 13 (`answered` of Laws).
 use borrow.Author.Rules.{rules}
 use Rattle.clubform.proofs.Stages.{accepted}

@@ -1,5 +1,5 @@
 -- `clubform::calls::new_race` meets its contract: the rules, computed, say that this call on stage 7 writes stage 8
--- (`new-race` of `accepted` in Stages); so its number is 0, as `expect` requires, and the buffer holds stage 8
+-- (`new_race` of `accepted` in Stages); so its number is 0, as `expect` requires, and the buffer holds stage 8
 -- (`answered` of Laws).
 use borrow.Author.Rules.{rules}
 use Rattle.clubform.proofs.Stages.{accepted}

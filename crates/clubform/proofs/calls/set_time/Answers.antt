@@ -1,5 +1,5 @@
 -- `clubform::calls::set_time` meets its contract: the rules, computed, say that this call on stage 9 writes stage 10
--- (`set-time` of `accepted` in Stages); so its number is 0, as `expect` requires, and the buffer holds stage 10
+-- (`set_time` of `accepted` in Stages); so its number is 0, as `expect` requires, and the buffer holds stage 10
 -- (`answered` of Laws).
 use borrow.Author.Rules.{rules}
 use Rattle.clubform.proofs.Stages.{accepted}

@@ -1,5 +1,5 @@
 /* The form store of a timing box: one string of bytes that holds a DTD and the finish lists under it. These are the
- * calls that a box links; `rt staticlib formstore` proves them and writes target/staticlib/libformstore.a.
+ * calls that a box links; `tools/library` proves them and writes target/staticlib/libformstore.a.
  *
  * A STORE is what a box keeps. It begins as FORMSTORE_FRESH, or as what formstore_read_text() makes of a printed text.
  * A change reads the store in one buffer and writes the new store into another one, so that a refusal, or a crash

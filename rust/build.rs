@@ -1,4 +1,4 @@
-//! Links the archive that `rt staticlib formstore` writes: from the folder that FORMSTORE_LIB_DIR names, else from the
+//! Links the archive that `tools/library` writes: from the folder that FORMSTORE_LIB_DIR names, else from the
 //! repository that this crate stands in.
 
 use std::path::{Path, PathBuf};
@@ -15,7 +15,7 @@ fn main() {
     if let Err(wrong) = archive.metadata() {
         refuse(&format!(
             "there is no archive at {}: {wrong}\n\
-             `rt staticlib formstore` in the repository of the form store proves the library and writes target/staticlib/libformstore.a;\n\
+             `tools/library` in the repository of the form store proves the library and writes target/staticlib/libformstore.a;\n\
              set {PLACE} to the folder that holds it",
             archive.display()
         ));

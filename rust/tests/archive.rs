@@ -19,7 +19,7 @@ fn a_missing_archive_is_told() {
     let archive = nowhere.join("libformstore.a");
     for part in [
         &format!("formstore: there is no archive at {}", archive.display()),
-        "rt staticlib formstore",
+        "tools/library",
         "set FORMSTORE_LIB_DIR",
     ] {
         assert!(told.contains(part), "{part} is not in:\n{told}");

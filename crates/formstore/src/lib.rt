@@ -1,5 +1,4 @@
-//! The public calls, forwarded to the crates that hold them. Each stands beside an exported function of the same
-//! promise; include/formstore.h declares those.
+//! The public calls, forwarded to the crates that hold them. The crate formstore_c exports them to C.
 #![tactic(auto)]
 
 ghost use Rattle.std.specs.Prelude.{◌≡◌, length};
@@ -12,7 +11,7 @@ ghost use Rattle.rules.specs.Outcome.{Promise, Answers};
 ghost use Rattle.rules.specs.Layout.{base_version};
 ghost use Rattle.rules.specs.Print.{print_outcome};
 ghost use Rattle.reading_rules.specs.Reading.{ReadPromise};
-ghost use Rattle.lookup.specs.Finding.{Looks, Hands};
+ghost use Rattle.lookup.specs.Finding.{Hands};
 ghost use Rattle.look_up_calls.specs.Calls.{check_answer};
 
 pub use look_up_calls::Found;
@@ -20,13 +19,6 @@ pub use store_writer::Answer;
 
 /// 0 if the store passes the check, 1 if it does not.
 pub fn check(store: &[u8]) -> u32
-    ensures { result ≡ check_answer (passes store.now) }
-{
-    look_up_calls::check(store)
-}
-
-#[unsafe(no_mangle)]
-pub extern "C" fn formstore_check(store: &[u8]) -> u32
     ensures { result ≡ check_answer (passes store.now) }
 {
     look_up_calls::check(store)
@@ -40,13 +32,6 @@ pub fn look_up<'a>(store: &'a [u8], serial: u32, number: &mut u32) -> &'a [u8]
     look_up_calls::look_up(store, serial, number)
 }
 
-#[unsafe(no_mangle)]
-pub extern "C" fn formstore_look_up(store: &[u8], serial: u32) -> Found
-    ensures { Looks (look_up store.now serial) result.number result.start result.length }
-{
-    look_up_calls::look_up_place(store, serial)
-}
-
 /// Prints the store.
 pub fn print(store: &[u8], out: &mut [u8]) -> Answer
     ensures { Answers (print_outcome store.now (length out.old)) out.old result.number result.length out.new }
@@ -54,22 +39,8 @@ pub fn print(store: &[u8], out: &mut [u8]) -> Answer
     print_call::print(store, out)
 }
 
-#[unsafe(no_mangle)]
-pub extern "C" fn formstore_print(store: &[u8], out: &mut [u8]) -> Answer
-    ensures { Answers (print_outcome store.now (length out.old)) out.old result.number result.length out.new }
-{
-    print_call::print(store, out)
-}
-
 /// Reads a printed text into a store: that of all stores that print it which has its serials from 1 on.
 pub fn read_text(text: &[u8], out: &mut [u8]) -> Answer
-    ensures { ReadPromise base_version text.now out.old result.number result.length out.new }
-{
-    read_call::read_text(text, out)
-}
-
-#[unsafe(no_mangle)]
-pub extern "C" fn formstore_read_text(text: &[u8], out: &mut [u8]) -> Answer
     ensures { ReadPromise base_version text.now out.old result.number result.length out.new }
 {
     read_call::read_text(text, out)
@@ -84,31 +55,8 @@ pub fn create_definition(store: &[u8], name: &[u8], kind: u32, out: &mut [u8]) -
     create_definition_call::create_definition(store, name, kind, out)
 }
 
-#[unsafe(no_mangle)]
-pub extern "C" fn formstore_create_definition(
-    store: &[u8],
-    name: &[u8],
-    kind: u32,
-    out: &mut [u8],
-) -> Answer
-    ensures { Promise (create_definition name.now kind) store.now out.old result.number result.length out.new }
-{
-    create_definition_call::create_definition(store, name, kind, out)
-}
-
 /// 2: destroys a definition, with its model and attributes.
 pub fn destroy_definition(store: &[u8], definition: u32, out: &mut [u8]) -> Answer
-    ensures { Promise (destroy_definition definition) store.now out.old result.number result.length out.new }
-{
-    destroy_definition_call::destroy_definition(store, definition, out)
-}
-
-#[unsafe(no_mangle)]
-pub extern "C" fn formstore_destroy_definition(
-    store: &[u8],
-    definition: u32,
-    out: &mut [u8],
-) -> Answer
     ensures { Promise (destroy_definition definition) store.now out.old result.number result.length out.new }
 {
     destroy_definition_call::destroy_definition(store, definition, out)
@@ -129,21 +77,6 @@ pub fn insert_element(
     insert_call::insert_element(store, owner, place, definition, quantifier, text, out)
 }
 
-#[unsafe(no_mangle)]
-pub extern "C" fn formstore_insert_element(
-    store: &[u8],
-    owner: u32,
-    place: &[u32],
-    definition: u32,
-    quantifier: u32,
-    text: &[u8],
-    out: &mut [u8],
-) -> Answer
-    ensures { Promise (insert_element owner place.now definition quantifier text.now) store.now out.old result.number result.length out.new }
-{
-    insert_call::insert_element(store, owner, place, definition, quantifier, text, out)
-}
-
 /// 4: removes an element from a model, with the children of instances that it stands for.
 pub fn remove_element(store: &[u8], owner: u32, place: &[u32], out: &mut [u8]) -> Answer
     ensures { Promise (remove_element owner place.now) store.now out.old result.number result.length out.new }
@@ -151,34 +84,8 @@ pub fn remove_element(store: &[u8], owner: u32, place: &[u32], out: &mut [u8]) -
     remove_call::remove_element(store, owner, place, out)
 }
 
-#[unsafe(no_mangle)]
-pub extern "C" fn formstore_remove_element(
-    store: &[u8],
-    owner: u32,
-    place: &[u32],
-    out: &mut [u8],
-) -> Answer
-    ensures { Promise (remove_element owner place.now) store.now out.old result.number result.length out.new }
-{
-    remove_call::remove_element(store, owner, place, out)
-}
-
 /// 5: changes an element's quantifier.
 pub fn change_quantifier(
-    store: &[u8],
-    owner: u32,
-    place: &[u32],
-    quantifier: u32,
-    text: &[u8],
-    out: &mut [u8],
-) -> Answer
-    ensures { Promise (change_quantifier owner place.now quantifier text.now) store.now out.old result.number result.length out.new }
-{
-    quantifier_calls::requantify(store, owner, place, quantifier, text, false, out)
-}
-
-#[unsafe(no_mangle)]
-pub extern "C" fn formstore_change_quantifier(
     store: &[u8],
     owner: u32,
     place: &[u32],
@@ -205,20 +112,6 @@ pub fn convert_to_group(
     convert_call::convert_to_group(store, owner, place, count, sort, out)
 }
 
-#[unsafe(no_mangle)]
-pub extern "C" fn formstore_convert_to_group(
-    store: &[u8],
-    owner: u32,
-    place: &[u32],
-    count: u32,
-    sort: u32,
-    out: &mut [u8],
-) -> Answer
-    ensures { Promise (convert_to_group owner place.now count sort) store.now out.old result.number result.length out.new }
-{
-    convert_call::convert_to_group(store, owner, place, count, sort, out)
-}
-
 /// 7: flattens a group into its list.
 pub fn flatten_group(store: &[u8], owner: u32, place: &[u32], out: &mut [u8]) -> Answer
     ensures { Promise (flatten_group owner place.now) store.now out.old result.number result.length out.new }
@@ -226,34 +119,8 @@ pub fn flatten_group(store: &[u8], owner: u32, place: &[u32], out: &mut [u8]) ->
     flatten_call::flatten_group(store, owner, place, out)
 }
 
-#[unsafe(no_mangle)]
-pub extern "C" fn formstore_flatten_group(
-    store: &[u8],
-    owner: u32,
-    place: &[u32],
-    out: &mut [u8],
-) -> Answer
-    ensures { Promise (flatten_group owner place.now) store.now out.old result.number result.length out.new }
-{
-    flatten_call::flatten_group(store, owner, place, out)
-}
-
 /// 8: changes a group's quantifier.
 pub fn change_group_quantifier(
-    store: &[u8],
-    owner: u32,
-    place: &[u32],
-    quantifier: u32,
-    text: &[u8],
-    out: &mut [u8],
-) -> Answer
-    ensures { Promise (change_group_quantifier owner place.now quantifier text.now) store.now out.old result.number result.length out.new }
-{
-    quantifier_calls::requantify(store, owner, place, quantifier, text, true, out)
-}
-
-#[unsafe(no_mangle)]
-pub extern "C" fn formstore_change_group_quantifier(
     store: &[u8],
     owner: u32,
     place: &[u32],
@@ -280,20 +147,6 @@ pub fn add_attribute(
     add_attribute_call::add_attribute(store, owner, name, sort, value, out)
 }
 
-#[unsafe(no_mangle)]
-pub extern "C" fn formstore_add_attribute(
-    store: &[u8],
-    owner: u32,
-    name: &[u8],
-    sort: u32,
-    value: &[u8],
-    out: &mut [u8],
-) -> Answer
-    ensures { Promise (add_attribute owner name.now sort value.now) store.now out.old result.number result.length out.new }
-{
-    add_attribute_call::add_attribute(store, owner, name, sort, value, out)
-}
-
 /// 10: destroys an attribute, with its rows.
 pub fn destroy_attribute(store: &[u8], attribute: u32, out: &mut [u8]) -> Answer
     ensures { Promise (destroy_attribute attribute) store.now out.old result.number result.length out.new }
@@ -301,31 +154,8 @@ pub fn destroy_attribute(store: &[u8], attribute: u32, out: &mut [u8]) -> Answer
     destroy_attribute_call::destroy_attribute(store, attribute, out)
 }
 
-#[unsafe(no_mangle)]
-pub extern "C" fn formstore_destroy_attribute(
-    store: &[u8],
-    attribute: u32,
-    out: &mut [u8],
-) -> Answer
-    ensures { Promise (destroy_attribute attribute) store.now out.old result.number result.length out.new }
-{
-    destroy_attribute_call::destroy_attribute(store, attribute, out)
-}
-
 /// 11: a new last document, the filling of a definition.
 pub fn add_document(store: &[u8], definition: u32, text: &[u8], out: &mut [u8]) -> Answer
-    ensures { Promise (add_document definition text.now) store.now out.old result.number result.length out.new }
-{
-    document_call::add_document(store, definition, text, out)
-}
-
-#[unsafe(no_mangle)]
-pub extern "C" fn formstore_add_document(
-    store: &[u8],
-    definition: u32,
-    text: &[u8],
-    out: &mut [u8],
-) -> Answer
     ensures { Promise (add_document definition text.now) store.now out.old result.number result.length out.new }
 {
     document_call::add_document(store, definition, text, out)
@@ -345,29 +175,8 @@ pub fn add_element(
     add_element_call::add_element(store, parent, child, definition, text, out)
 }
 
-#[unsafe(no_mangle)]
-pub extern "C" fn formstore_add_element(
-    store: &[u8],
-    parent: u32,
-    child: u32,
-    definition: u32,
-    text: &[u8],
-    out: &mut [u8],
-) -> Answer
-    ensures { Promise (add_element parent child definition text.now) store.now out.old result.number result.length out.new }
-{
-    add_element_call::add_element(store, parent, child, definition, text, out)
-}
-
 /// 13: destroys an element with all below it, or a whole document.
 pub fn destroy_element(store: &[u8], element: u32, out: &mut [u8]) -> Answer
-    ensures { Promise (destroy_element element) store.now out.old result.number result.length out.new }
-{
-    destroy_element_call::destroy_element(store, element, out)
-}
-
-#[unsafe(no_mangle)]
-pub extern "C" fn formstore_destroy_element(store: &[u8], element: u32, out: &mut [u8]) -> Answer
     ensures { Promise (destroy_element element) store.now out.old result.number result.length out.new }
 {
     destroy_element_call::destroy_element(store, element, out)
@@ -386,19 +195,6 @@ pub fn set_attribute(
     set_attribute_call::set_attribute(store, element, attribute, value, out)
 }
 
-#[unsafe(no_mangle)]
-pub extern "C" fn formstore_set_attribute(
-    store: &[u8],
-    element: u32,
-    attribute: u32,
-    value: &[u8],
-    out: &mut [u8],
-) -> Answer
-    ensures { Promise (set_attribute element attribute value.now) store.now out.old result.number result.length out.new }
-{
-    set_attribute_call::set_attribute(store, element, attribute, value, out)
-}
-
 /// 15: destroys the row of an attribute of an element.
 pub fn destroy_attribute_row(store: &[u8], element: u32, attribute: u32, out: &mut [u8]) -> Answer
     ensures { Promise (destroy_attribute_row element attribute) store.now out.old result.number result.length out.new }
@@ -406,32 +202,8 @@ pub fn destroy_attribute_row(store: &[u8], element: u32, attribute: u32, out: &m
     destroy_attribute_row_call::destroy_attribute_row(store, element, attribute, out)
 }
 
-#[unsafe(no_mangle)]
-pub extern "C" fn formstore_destroy_attribute_row(
-    store: &[u8],
-    element: u32,
-    attribute: u32,
-    out: &mut [u8],
-) -> Answer
-    ensures { Promise (destroy_attribute_row element attribute) store.now out.old result.number result.length out.new }
-{
-    destroy_attribute_row_call::destroy_attribute_row(store, element, attribute, out)
-}
-
 /// 16: sets the text of a PCDATA element.
 pub fn set_text(store: &[u8], element: u32, text: &[u8], out: &mut [u8]) -> Answer
-    ensures { Promise (set_text element text.now) store.now out.old result.number result.length out.new }
-{
-    text_call::set_text(store, element, text, out)
-}
-
-#[unsafe(no_mangle)]
-pub extern "C" fn formstore_set_text(
-    store: &[u8],
-    element: u32,
-    text: &[u8],
-    out: &mut [u8],
-) -> Answer
     ensures { Promise (set_text element text.now) store.now out.old result.number result.length out.new }
 {
     text_call::set_text(store, element, text, out)

@@ -137,7 +137,7 @@ module _ {w n : ℕ} {defs : Bytes} {p : ℕ} {parts : Bytes} {a : ℕ} {attrs :
         few = start_all;
         long = long;
         once = (bodies_of_lem (form_of_bodies w n defs p parts a attrs) b).apart;
-        shaped = all_shaped (length (definitions n defs)) (definitions n defs) (particles_read p parts) fields_fit.definitions models;
+        shaped = all_shaped (length (definitions n defs)) (definitions n defs) (particles_read p parts) fields_fit_lem.definitions models;
       }
 
       -- the members of a definition are the elements of its part

@@ -36,13 +36,13 @@ pub returns-then-not-put : goal.returns-then-not-put
 returns-then-not-put c =
     let i = c.loop-size.invariant in
     let put = c.put_token-put.ensures in
-    (putting_refused i.0 c.after-t.ensures put.0 c.if-not-put.true c.inexact.ensures, record { stack = put.1.stack; long = put.1.long ∙ i.1.long })
+    (putting_refused i.0 c.after-t.ensures put.0 (not-true _ c.if-not-put.true) c.inexact.ensures, record { stack = put.1.stack; long = put.1.long ∙ i.1.long })
 
 pub overflow_add-size : goal.overflow_add-size
 overflow_add-size c =
     let i = c.loop-size.invariant in
     let put = c.put_token-put.ensures in
-    let part = put.0.reads c.if-not-put.false in
+    let part = put.0.reads (not-false _ c.if-not-put.false) in
     let known = c.well_formed.1.1.1.1.1.0.0 in
     omega (arith, known, part.within, i.0.part.within, ap length c.after-t.ensures, length-drop c.loop-size.size c.args.text.now)
 
@@ -50,7 +50,7 @@ pub loop-size-smaller : goal.loop-size-smaller
 loop-size-smaller c =
     let i = c.loop-size.invariant in
     let put = c.put_token-put.ensures in
-    let exact = c.if-not-put.false in
+    let exact = not-false _ c.if-not-put.false in
     omega (arith, put.0.onward exact, (put.0.reads exact).within, ap length c.after-t.ensures, length-drop c.loop-size.size c.args.text.now)
 
 pub loop-size-preserved : goal.loop-size-preserved
@@ -58,7 +58,7 @@ loop-size-preserved c =
     let i = c.loop-size.invariant in
     let put = c.put_token-put.ensures in
     let (unread, few) = goes_on c.loop-size.size (length c.args.text.now) c.loop-size.here.count c.args.limit c.loop-size-test.true in
-    (putting_on i.0 c.after-t.ensures put.0 c.if-not-put.false few, record { stack = put.1.stack; long = put.1.long ∙ i.1.long }, put.2 ∙ i.2)
+    (putting_on i.0 c.after-t.ensures put.0 (not-false _ c.if-not-put.false) few, record { stack = put.1.stack; long = put.1.long ∙ i.1.long }, put.2 ∙ i.2)
 
 pub returns : goal.returns
 returns c =

@@ -20,7 +20,7 @@ returns-then-not-token c =
     let p = c.requires in
     let told = c.token_at-token.ensures in (
       token_refused a.w (declared_in a.form.now) a.text.now a.progress.count a.opened.now a.progress.depth a.progress.tag p.5 told
-          c.if-not-token.true c.inexact.ensures,
+          (not-true _ c.if-not-token.true) c.inexact.ensures,
       record { stack = p.2; long = refl },
       told.long,
     )
@@ -29,7 +29,7 @@ pub put_made-next-requires : goal.put_made-next-requires
 put_made-next-requires c =
     let a = c.args in
     let p = c.requires in
-    let exact = c.if-not-token.false in
+    let exact = not-false _ c.if-not-token.false in
     let told = c.token_at-token.ensures.told exact in
     let is-exact = sym c.token_at-token.ensures.is ∙ exact in
     let fits = token_fits (declared_in a.form.now) a.w (stack_of a.progress.depth a.opened.now) a.progress.tag a.text.now is-exact in (
@@ -44,7 +44,7 @@ pub advance-requires : goal.advance-requires
 advance-requires c =
     let a = c.args in
     let p = c.requires in
-    let exact = c.if-not-token.false in
+    let exact = not-false _ c.if-not-token.false in
     let told = c.token_at-token.ensures.told exact in
     let is-exact = sym c.token_at-token.ensures.is ∙ exact in
     let fits = token_fits (declared_in a.form.now) a.w (stack_of a.progress.depth a.opened.now) a.progress.tag a.text.now is-exact in (
@@ -62,7 +62,7 @@ pub returns : goal.returns
 returns c =
     let a = c.args in
     let p = c.requires in
-    let exact = c.if-not-token.false in
+    let exact = not-false _ c.if-not-token.false in
     let told = c.token_at-token.ensures.told exact in
     let is-exact = sym c.token_at-token.ensures.is ∙ exact in
     let fits = token_fits (declared_in a.form.now) a.w (stack_of a.progress.depth a.opened.now) a.progress.tag a.text.now is-exact in

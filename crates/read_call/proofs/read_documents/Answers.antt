@@ -15,14 +15,14 @@ judge_documents-judged-requires c =
 pub returns-then-not-judged : goal.returns-then-not-judged
 returns-then-not-judged c =
     answers_as c.refused.ensures.0 c.refused.ensures.1
-    (answer_bad c.args.form.now c.args.text.now c.args.out.now c.judge_documents-judged.ensures (ap not c.if-not-judged.true))
+    (answer_bad c.args.form.now c.args.text.now c.args.out.now c.judge_documents-judged.ensures c.if-not-judged.true)
 
 pub row_size-requires : goal.row_size-requires
 row_size-requires c = c.width_in-w.ensures.small
 
 pub times-requires : goal.times-requires
 times-requires c =
-    let there = rows_standing c.args.form.now c.args.text.now c.judge_documents-judged.ensures (ap not c.if-not-judged.false) in
+    let there = rows_standing c.args.form.now c.args.text.now c.judge_documents-judged.ensures c.if-not-judged.false in
     (omega (arith, c.row_size.ensures, c.width_in-w.ensures.small), omega (arith, there.few))
 
 pub overflow_add-length : goal.overflow_add-length
@@ -31,15 +31,15 @@ overflow_add-length c = omega (arith, c.times.ensures.small, c.row_start.ensures
 pub returns-then-length-out : goal.returns-then-length-out
 returns-then-length-out c =
     answers_as c.refused-then-length-out.ensures.0 c.refused-then-length-out.ensures.1
-    (answer_short c.args.form.now c.args.text.now c.args.out.now c.judge_documents-judged.ensures (ap not c.if-not-judged.false)
+    (answer_short c.args.form.now c.args.text.now c.args.out.now c.judge_documents-judged.ensures c.if-not-judged.false
     c.row_start.ensures c.width_in-w.ensures c.row_size.ensures c.times.ensures (omega (arith, c.if-length-out.true)))
 
 pub put_store-requires : goal.put_store-requires
 put_store-requires c =
-    (c.requires, rows_standing c.args.form.now c.args.text.now c.judge_documents-judged.ensures (ap not c.if-not-judged.false))
+    (c.requires, rows_standing c.args.form.now c.args.text.now c.judge_documents-judged.ensures c.if-not-judged.false)
 
 pub returns : goal.returns
 returns c =
-    answer_all c.args.form.now c.args.text.now c.args.out.now c.judge_documents-judged.ensures (ap not c.if-not-judged.false)
+    answer_all c.args.form.now c.args.text.now c.args.out.now c.judge_documents-judged.ensures c.if-not-judged.false
     c.row_start.ensures c.width_in-w.ensures c.row_size.ensures c.times.ensures (omega (arith, c.if-length-out.false))
     c.put_store.ensures

@@ -37,7 +37,7 @@ pub returns-then-not-front : goal.returns-then-not-front
 returns-then-not-front c =
     promised_bad c.args.text.now c.args.out.now c.refused-then-not-front.ensures.0 c.refused-then-not-front.ensures.1
     (form_refused c.args.text.now (read_at_lem c.args.text.now c.width_of.ensures c.read_form-size.ensures) c.if-size-eq0.false
-    (length-replicate {A = ℕ} 9768 0) c.confirm-front.ensures (ap not c.if-not-front.true))
+    (length-replicate {A = ℕ} 9768 0) c.confirm-front.ensures c.if-not-front.true)
 
 pub slice_bounds-form-end-2 : goal.slice_bounds-form-end-2
 slice_bounds-form-end-2 c =
@@ -50,9 +50,9 @@ slice_bounds-read_documents-end c =
 pub read_documents-requires : goal.read_documents-requires
 read_documents-requires c =
     form_passes c.args.text.now (read_at_lem c.args.text.now c.width_of.ensures c.read_form-size.ensures) c.if-size-eq0.false
-    (length-replicate {A = ℕ} 9768 0) c.confirm-front.ensures (ap not c.if-not-front.false)
+    (length-replicate {A = ℕ} 9768 0) c.confirm-front.ensures c.if-not-front.false
 
 pub returns : goal.returns
 returns c =
     promised_on c.args.text.now (read_at_lem c.args.text.now c.width_of.ensures c.read_form-size.ensures) c.if-size-eq0.false
-    (length-replicate {A = ℕ} 9768 0) c.confirm-front.ensures (ap not c.if-not-front.false) c.after.ensures c.args.out.now c.read_documents.ensures
+    (length-replicate {A = ℕ} 9768 0) c.confirm-front.ensures c.if-not-front.false c.after.ensures c.args.out.now c.read_documents.ensures

@@ -8,4 +8,4 @@ use Rattle.resume.proofs.answer_after.Goals as goal
 pub answer_from-requires : goal.answer_from-requires
 answer_from-requires c =
     let asks = c.askable.ensures c.if-not-askable.false in
-    (asks.0, record { long = search rules; c = omega arith }, asks.1)
+    (asks.0, record { long = search rules; low = omega arith }, asks.1)

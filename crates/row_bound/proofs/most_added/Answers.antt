@@ -10,7 +10,7 @@ use Rattle.row_bound.proofs.most_added.Goals as goal
 pub returns-then-not-plan : goal.returns-then-not-plan
 returns-then-not-plan c = let a = c.args in
     bounds_none a.version a.w a.n a.defs.now a.parts.now a.a a.attrs.now a.rows.now a.count a.plan a.text.now c.requires.1
-    c.if-not-plan.true
+    (not-true c.args.plan.fills c.if-not-plan.true)
 
 pub returns-then-one-eq0 : goal.returns-then-one-eq0
 returns-then-one-eq0 c = let a = c.args in

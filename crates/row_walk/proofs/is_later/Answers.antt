@@ -2,6 +2,7 @@
 -- variant, and every other number is that of `Unmarked` (`later_unmarked` of RowLaws), whose clause tests the mark that
 -- `codec::byte` reads.
 use native.Mathlib.Omega.{arith}
+use lib.ListN.{get_or}
 use Rattle.row_walk.proofs.RowLaws.{later_unmarked}
 use borrow.Author.Rules.{rules}
 use Rattle.row_walk.proofs.is_later.Goals as goal
@@ -19,4 +20,4 @@ returns-in-2 c =
 
 pub returns-in_default : goal.returns-in_default
 returns-in_default c =
-    rw (later_unmarked _ _ (omega arith) (omega arith) (omega arith), c.byte.ensures)
+    rw (later_unmarked (get_or c.args.p.now 4 0) (get_or c.args.p.now 5 0) (omega arith) (omega arith) (omega arith), c.byte.ensures)

@@ -20,7 +20,7 @@ returns-then-due c =
     let s = a.sizes.now in
     let f = a.form.now in
     let same = ap
-    (λ (what : Filling). fill_with (version_of_filling s) (width_in s) (size_in s) (defs_in f) (parts_in f) (count_in s) (attrs_in f) what a.t4.now a.depth)
+    (λ (what : Filling). fill_with (version_of_filling s) (width_in s) (size_in s) (defs_in f) (parts_in f) (count_in s) (attrs_in f) what a.text.now a.depth)
     (sym c.filling_of-what.ensures) in
     owed_put c.if-due.true (written_as same c.put_any.ensures)
 

@@ -23,7 +23,7 @@ filling_with_rows-what-requires c =
 pub walk_lent-requires : goal.walk_lent-requires
 walk_lent-requires c =
     let a = c.args in
-    let ready = ready_settled a.t10 c.filling_with_rows-what.ensures c.requires.0 in
+    let ready = ready_settled a.plan c.filling_with_rows-what.ensures c.requires.0 in
     (subst (λ (q : Plan). Ready a.w a.n a.a a.text.now q) (sym c.plan_numbers-p.ensures) ready, c.requires.1, c.requires.2, c.requires.3)
 
 pub returns : goal.returns
@@ -33,4 +33,4 @@ returns c =
     let lent = ap
     (λ (q : Plan). walked q a.text.now (plan_filling a.version a.w a.n a.defs.now a.parts.now a.a a.attrs.now q a.text.now) (at_first q) rows)
     (sym c.plan_numbers-p.ensures) in
-    written_as (walked_settled a.t10 c.filling_with_rows-what.ensures rows ∙ lent) c.walk_lent.ensures
+    written_as (walked_settled a.plan c.filling_with_rows-what.ensures rows ∙ lent) c.walk_lent.ensures

@@ -3,3 +3,4 @@ pub mod Bodies
 pub mod RowBytes
 pub mod RecordBytes
 pub mod Header
+pub mod Form

@@ -10,6 +10,7 @@ ghost use Rattle.layout.specs.Fields.{definition_entry_at, particle_entry_at, at
 ghost use Rattle.layout.specs.Bodies.{Width, window_of, Product, record_at, Number, WidthIn, ShapeFits, ShapeOf, attributes_start, rows_start, Place};
 ghost use Rattle.layout.specs.Bodies.{definition_body, particle_body, attribute_body, row_body, definitions_in, particles_in, attributes_in, tree_rows_in};
 ghost use Rattle.layout.specs.Bodies.{attribute_bytes_in, ValueAt};
+ghost use Rattle.layout.specs.Form.{FormOf};
 
 pub const HEADER_SIZE: usize = 40;
 
@@ -546,6 +547,36 @@ pub fn rows_of(store: &[u8]) -> &[u8]
 {
     let s = shape_of(store);
     row_body(store, s)
+}
+
+/// A form that is lent: its version, the width of a value, and its bodies with how many records each has.
+#[derive(Clone, Copy)]
+pub struct Form<'a> {
+    pub version: usize,
+    pub width: usize,
+    pub definition_count: usize,
+    pub particle_count: usize,
+    pub attribute_count: usize,
+    pub definitions: &'a [u8],
+    pub particles: &'a [u8],
+    pub attributes: &'a [u8],
+}
+
+/// The form of a store, by its own header.
+pub fn form_of(store: &[u8]) -> Form<'_>
+    ensures { FormOf store.now result }
+{
+    let s = shape_of(store);
+    Form {
+        version: s.version as usize,
+        width: s.width,
+        definition_count: s.definitions,
+        particle_count: s.particles,
+        attribute_count: s.attributes,
+        definitions: definition_body(store, s),
+        particles: particle_body(store, s),
+        attributes: attribute_body(store, s),
+    }
 }
 
 // ---- the fields of a particle, and the owner of an attribute as its byte

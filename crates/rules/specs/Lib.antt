@@ -18,6 +18,7 @@ pub mod Change
 pub mod Refusal
 pub mod Lowest
 pub mod Outcome
+pub mod Given
 pub mod LookUp
 pub mod Print
 pub mod Book

@@ -1,8 +1,13 @@
 //! The types that the definitions of specs/ and the code of the crates above share.
 #![tactic(auto)]
 
+ghost use Rattle.std.specs.Prelude.{◌≡◌};
+ghost use Rattle.rules.specs.Layout.{quantifier_code, group_code};
+ghost use Rattle.rules.specs.Decode.{quantifier_of, group_of};
+ghost use Rattle.rules.specs.Given.{refusal_number};
+
 /// How often a particle may stand.
-#[derive(Clone, Copy)]
+#[derive(Clone, Copy, Debug, PartialEq, Eq)]
 pub enum Quantifier {
     None,
     Qmark,
@@ -10,11 +15,56 @@ pub enum Quantifier {
     Plus,
 }
 
+impl From<u8> for Quantifier {
+    ghost from_gives = { λ code quantifier. quantifier ≡ quantifier_of code };
+
+    /// The quantifier whose code this is in the store; every code above 3 is read as that of PLUS.
+    fn from(code: u8) -> Quantifier {
+        match code {
+            0 => Quantifier::None,
+            1 => Quantifier::Qmark,
+            2 => Quantifier::Star,
+            _ => Quantifier::Plus,
+        }
+    }
+}
+
+impl From<Quantifier> for u8 {
+    ghost from_gives = { λ quantifier code. code ≡ quantifier_code quantifier };
+
+    /// The code in the store.
+    fn from(quantifier: Quantifier) -> u8 {
+        quantifier as u8
+    }
+}
+
 /// The kind of a group: LIST is Sequence.
-#[derive(Clone, Copy)]
+#[derive(Clone, Copy, Debug, PartialEq, Eq)]
 pub enum GroupKind {
-    Sequence,
-    Choice,
+    Sequence = 1,
+    Choice = 2,
+}
+
+impl From<u8> for GroupKind {
+    ghost from_gives = { λ code kind. kind ≡ group_of code };
+
+    /// The kind whose code this is in the store; every code above 1 is read as that of a CHOICE.
+    fn from(code: u8) -> GroupKind {
+        match code {
+            0 => GroupKind::Sequence,
+            1 => GroupKind::Sequence,
+            _ => GroupKind::Choice,
+        }
+    }
+}
+
+impl From<GroupKind> for u8 {
+    ghost from_gives = { λ kind code. code ≡ group_code kind };
+
+    /// The code in the store.
+    fn from(kind: GroupKind) -> u8 {
+        kind as u8
+    }
 }
 
 /// Of a part of a content model and two names x, y: it accepts nothing; y can be a word's first; x can be a word's
@@ -25,4 +75,38 @@ pub struct Facts {
     pub first: bool,
     pub last: bool,
     pub follow: bool,
+}
+
+/// Why a call is refused: the rows of the refusal table, in the order of their numbers, and 19, a text that no store
+/// prints.
+#[derive(Clone, Copy, Debug, PartialEq, Eq)]
+pub enum Refusal {
+    BadStore = 1,
+    BadName = 2,
+    BadValue = 3,
+    BadCode = 4,
+    Taken = 5,
+    Unknown = 6,
+    NoRow = 7,
+    NoPlace = 8,
+    WrongKind = 9,
+    InUse = 10,
+    Round = 11,
+    Default = 12,
+    OffSpine = 13,
+    Grouping = 14,
+    NoMatch = 15,
+    Ceiling = 16,
+    Serials = 17,
+    Buffer = 18,
+    BadText = 19,
+}
+
+impl From<Refusal> for u32 {
+    ghost from_gives = { λ refusal number. number ≡ refusal_number refusal };
+
+    /// The number in the table.
+    fn from(refusal: Refusal) -> u32 {
+        refusal as u32
+    }
 }

@@ -3,6 +3,7 @@
 -- no longer than `most_form` (`form_short` of FormBytesLaws in `store_laws`).
 use Rattle.layout.proofs.LayoutLaws.{width_within}
 use Rattle.store_laws.proofs.StoreLaws.{holds}
+use Rattle.std.proofs.lemmas.Result.{err_from_is_err_and}
 use Rattle.store_limits.proofs.GivenLaws.{refusal_some}
 use mathlib.Core.Path.{refl}
 use Rattle.store_laws.proofs.FormBytesLaws.{form_short}
@@ -17,7 +18,9 @@ pub returns-in_err-refusal : goal.returns-in_err-refusal
 returns-in_err-refusal c =
     let a = c.args in
     let h = holds a.store.now c.requires.0 in
-    edit_refused h c.requires.3 a.plan a.text.now a.out.now c.in_err-refusal.ensures (refusal_some c.in_err-refusal.field-0)
+    let passed_on = err_from_is_err_and c.from_residual.result c.from_residual.ensures.1 in
+    rw (passed_on.1, passed_on.2)
+    (edit_refused h c.requires.3 a.plan a.text.now a.out.now c.in_err-refusal.ensures (refusal_some c.in_err-refusal.field-0.0))
 
 pub returns : goal.returns
 returns c =

@@ -10,7 +10,7 @@ use Rattle.store_writer.proofs.CallLaws.{passed, bad, turned_away}
 use Rattle.add_attribute_call.specs.Added.{added}
 use Rattle.call_laws.proofs.Calls.{made}
 use Rattle.add_attribute_call.proofs.Laws.{addable, add_leaves}
-use borrow.Author.Rules.{rules}
+use Rattle.std.proofs.lemmas.Result.{err_from_is_err_and}
 use Rattle.add_attribute_call.proofs.add_attribute.Goals as goal
 
 pub returns-then-not-passes : goal.returns-then-not-passes
@@ -24,20 +24,22 @@ add_attribute_refusal-requires c =
 
 pub returns-in_err-add_attribute_refusal : goal.returns-in_err-add_attribute_refusal
 returns-in_err-add_attribute_refusal c =
-    turned_away (add_attribute c.args.owner c.args.name.now c.args.sort c.args.value.now) c.args.store.now
+    let passed_on = err_from_is_err_and c.from_residual.result c.from_residual.ensures.1 in
+    rw (passed_on.1, passed_on.2)
+    (turned_away (add_attribute c.args.owner c.args.name.now c.args.sort c.args.value.now) c.args.store.now
     (length c.args.out.now) c.args.out.now (ap not c.if-not-passes.false) c.passes.ensures
-    c.in_err-add_attribute_refusal.field-0 c.in_err-add_attribute_refusal.ensures
+    c.in_err-add_attribute_refusal.field-0.0 c.in_err-add_attribute_refusal.ensures)
 
 pub write_added-requires : goal.write_added-requires
 write_added-requires c =
     addable c.args.store.now (ap not c.if-not-passes.false) c.passes.ensures c.args.owner c.args.name.now c.args.sort
-    c.args.value.now (c.in_ok-add_attribute_refusal.ensures) refl
+    c.args.value.now c.in_ok-add_attribute_refusal.ensures refl
 
 pub returns : goal.returns
 returns c =
     made (add_attribute c.args.owner c.args.name.now c.args.sort c.args.value.now) c.args.store.now
     (length c.args.out.now) c.args.out.now
     (added c.args.owner c.args.name.now c.args.sort c.args.value.now (bodies_of c.args.store.now))
-    (ap not c.if-not-passes.false) c.passes.ensures (c.in_ok-add_attribute_refusal.ensures) refl
+    (ap not c.if-not-passes.false) c.passes.ensures c.in_ok-add_attribute_refusal.ensures refl
     (λ p z. add_leaves c.args.store.now p c.args.owner c.args.name.now c.args.sort c.args.value.now z)
     c.write_added.ensures

@@ -3,7 +3,7 @@
 -- `adding_element` and `edit` require is `add_element_there` and `add_element_asks` of Laws.
 use mathlib.Core.Path.{refl, ap}
 use mathlib.Core.Bool.{not}
-use borrow.Author.Rules.{rules}
+use Rattle.std.proofs.lemmas.Result.{err_from_is_err_and}
 use lib.ListN.{length}
 use Rattle.rules.specs.Change.{add_element}
 use Rattle.store_laws.specs.Stores.{store_in}
@@ -25,19 +25,21 @@ add_element_refusal-requires c =
 
 pub returns-in_err-add_element_refusal : goal.returns-in_err-add_element_refusal
 returns-in_err-add_element_refusal c =
-    turned_away (add_element c.args.parent c.args.child c.args.definition c.args.text.now) c.args.store.now
+    let passed_on = err_from_is_err_and c.from_residual.result c.from_residual.ensures.1 in
+    rw (passed_on.1, passed_on.2)
+    (turned_away (add_element c.args.parent c.args.child c.args.definition c.args.text.now) c.args.store.now
     (length c.args.out.now) c.args.out.now (ap not c.if-not-passes.false) c.passes.ensures
-    c.in_err-add_element_refusal.field-0 c.in_err-add_element_refusal.ensures
+    c.in_err-add_element_refusal.field-0.0 c.in_err-add_element_refusal.ensures)
 
 pub adding_element-plan-requires : goal.adding_element-plan-requires
 adding_element-plan-requires c =
     add_element_there c.args.store.now (ap not c.if-not-passes.false) c.passes.ensures c.args.parent c.args.child
-    c.args.definition c.args.text.now (c.in_ok-add_element_refusal.ensures) refl
+    c.args.definition c.args.text.now c.in_ok-add_element_refusal.ensures refl
 
 pub edit-requires : goal.edit-requires
 edit-requires c =
     add_element_asks c.args.store.now (ap not c.if-not-passes.false) c.passes.ensures c.args.parent c.args.child
-    c.args.definition c.args.text.now (c.in_ok-add_element_refusal.ensures) refl
+    c.args.definition c.args.text.now c.in_ok-add_element_refusal.ensures refl
     c.adding_element-plan.ensures
 
 pub returns : goal.returns
@@ -46,7 +48,7 @@ returns c =
     (length c.args.out.now) c.args.out.now
     (add_element_plan c.args.parent (child_serial c.args.parent c.args.child (store_in c.args.store.now))
     c.args.definition)
-    _ c.args.text.now (ap not c.if-not-passes.false) c.passes.ensures (c.in_ok-add_element_refusal.ensures) refl
+    _ c.args.text.now (ap not c.if-not-passes.false) c.passes.ensures c.in_ok-add_element_refusal.ensures refl
     c.adding_element-plan.ensures
     (λ g e. add_element_planned (store_in c.args.store.now) g c.args.parent c.args.child c.args.definition
     c.args.text.now e)

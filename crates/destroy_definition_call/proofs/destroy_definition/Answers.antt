@@ -11,7 +11,7 @@ use Rattle.lookup.specs.Bodies.{bodies_of}
 use Rattle.rules.specs.Change.{destroy_definition}
 use mathlib.Core.Path.{refl, sym, ◌∙◌, ap}
 use lib.ListN.{length}
-use borrow.Author.Rules.{rules}
+use Rattle.std.proofs.lemmas.Result.{err_from_is_err_and}
 use Rattle.destroy_definition_call.proofs.destroy_definition.Goals as goal
 
 pub returns-then-not-passes : goal.returns-then-not-passes
@@ -25,8 +25,10 @@ destroy_condition-requires c =
 
 pub returns-in_err-destroy_condition : goal.returns-in_err-destroy_condition
 returns-in_err-destroy_condition c =
-    turned_away (destroy_definition c.args.definition) c.args.store.now (length c.args.out.now) c.args.out.now
-    (ap not c.if-not-passes.false) c.passes.ensures c.in_err-destroy_condition.field-0 c.in_err-destroy_condition.ensures
+    let passed_on = err_from_is_err_and c.from_residual.result c.from_residual.ensures.1 in
+    rw (passed_on.1, passed_on.2)
+    (turned_away (destroy_definition c.args.definition) c.args.store.now (length c.args.out.now) c.args.out.now
+    (ap not c.if-not-passes.false) c.passes.ensures c.in_err-destroy_condition.field-0.0 c.in_err-destroy_condition.ensures)
 
 pub destroy_limit-requires : goal.destroy_limit-requires
 destroy_limit-requires c =
@@ -35,10 +37,12 @@ destroy_limit-requires c =
 
 pub returns-in_err-destroy_limit : goal.returns-in_err-destroy_limit
 returns-in_err-destroy_limit c =
-    let p = passed c.args.store.now (ap not c.if-not-passes.false) c.passes.ensures in
-    answers_limit (destroy_definition c.args.definition) c.args.store.now c.args.out.now p _ (c.in_ok-destroy_condition.ensures) refl (destroyed c.args.definition (bodies_of c.args.store.now))
+    let passed_on = err_from_is_err_and c.from_residual.result c.from_residual.ensures.1 in
+    rw (passed_on.1, passed_on.2)
+    (let p = passed c.args.store.now (ap not c.if-not-passes.false) c.passes.ensures in
+    answers_limit (destroy_definition c.args.definition) c.args.store.now c.args.out.now p _ c.in_ok-destroy_condition.ensures refl (destroyed c.args.definition (bodies_of c.args.store.now))
     (flat_after_destroy c.args.store.now c.args.definition p (sym c.in_ok-destroy_condition.ensures)) _ _
-    c.in_err-destroy_limit.field-0 c.in_err-destroy_limit.ensures
+    c.in_err-destroy_limit.field-0.0 c.in_err-destroy_limit.ensures)
 
 pub put_destroyed-left-requires : goal.put_destroyed-left-requires
 put_destroyed-left-requires c =
@@ -48,6 +52,6 @@ put_destroyed-left-requires c =
 pub returns : goal.returns
 returns c =
     let p = passed c.args.store.now (ap not c.if-not-passes.false) c.passes.ensures in
-    answers_all (destroy_definition c.args.definition) c.args.store.now c.args.out.now p _ (c.in_ok-destroy_condition.ensures) refl (destroyed c.args.definition (bodies_of c.args.store.now))
+    answers_all (destroy_definition c.args.definition) c.args.store.now c.args.out.now p _ c.in_ok-destroy_condition.ensures refl (destroyed c.args.definition (bodies_of c.args.store.now))
     (flat_after_destroy c.args.store.now c.args.definition p (sym c.in_ok-destroy_condition.ensures)) _ _
-    (c.in_ok-destroy_limit.ensures) refl c.put_destroyed-left.ensures
+    c.in_ok-destroy_limit.ensures refl c.put_destroyed-left.ensures

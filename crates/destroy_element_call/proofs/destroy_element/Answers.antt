@@ -3,7 +3,7 @@
 -- CallsPlanned); what `edit` requires is `takes_asks` of Calls.
 use mathlib.Core.Path.{refl, ap}
 use mathlib.Core.Bool.{not}
-use borrow.Author.Rules.{rules}
+use Rattle.std.proofs.lemmas.Result.{err_from_is_err_and}
 use mathlib.Core.List.{[]}
 use lib.ListN.{length}
 use Rattle.rules.specs.Change.{destroy_element}
@@ -26,18 +26,20 @@ destroy_element_refusal-requires c =
 
 pub returns-in_err-destroy_element_refusal : goal.returns-in_err-destroy_element_refusal
 returns-in_err-destroy_element_refusal c =
-    turned_away (destroy_element c.args.element) c.args.store.now (length c.args.out.now) c.args.out.now (ap not c.if-not-passes.false)
-    c.passes.ensures c.in_err-destroy_element_refusal.field-0 c.in_err-destroy_element_refusal.ensures
+    let passed_on = err_from_is_err_and c.from_residual.result c.from_residual.ensures.1 in
+    rw (passed_on.1, passed_on.2)
+    (turned_away (destroy_element c.args.element) c.args.store.now (length c.args.out.now) c.args.out.now (ap not c.if-not-passes.false)
+    c.passes.ensures c.in_err-destroy_element_refusal.field-0.0 c.in_err-destroy_element_refusal.ensures)
 
 pub edit-requires : goal.edit-requires
 edit-requires c =
     takes_asks c.args.store.now (ap not c.if-not-passes.false) c.passes.ensures (destroy_element c.args.element) Everything
-    (Serial c.args.element) (c.in_ok-destroy_element_refusal.ensures) refl
+    (Serial c.args.element) c.in_ok-destroy_element_refusal.ensures refl
     c.destroying_element-plan.ensures
 
 pub returns : goal.returns
 returns c =
     made_planned (destroy_element c.args.element) c.args.store.now (length c.args.out.now) c.args.out.now
     (destroy_element_plan c.args.element) _ [] (ap not c.if-not-passes.false) c.passes.ensures
-    (c.in_ok-destroy_element_refusal.ensures) refl c.destroying_element-plan.ensures
+    c.in_ok-destroy_element_refusal.ensures refl c.destroying_element-plan.ensures
     (λ g e. destroy_element_planned (store_in c.args.store.now) g c.args.element []) c.edit.ensures

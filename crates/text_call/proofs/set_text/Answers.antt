@@ -3,7 +3,7 @@
 -- the change does (`set_text_planned` of CallsPlanned, `made_planned` of Calls).
 use mathlib.Core.Path.{refl, ap}
 use mathlib.Core.Bool.{not}
-use borrow.Author.Rules.{rules}
+use Rattle.std.proofs.lemmas.Result.{err_from_is_err_and}
 use lib.ListN.{length}
 use Rattle.rules.specs.Change.{set_text}
 use Rattle.store_laws.specs.Stores.{store_in}
@@ -25,23 +25,25 @@ set_text_refusal-requires c =
 
 pub returns-in_err-set_text_refusal : goal.returns-in_err-set_text_refusal
 returns-in_err-set_text_refusal c =
-    turned_away (set_text c.args.element c.args.text.now) c.args.store.now (length c.args.out.now) c.args.out.now
-    (ap not c.if-not-passes.false) c.passes.ensures c.in_err-set_text_refusal.field-0 c.in_err-set_text_refusal.ensures
+    let passed_on = err_from_is_err_and c.from_residual.result c.from_residual.ensures.1 in
+    rw (passed_on.1, passed_on.2)
+    (turned_away (set_text c.args.element c.args.text.now) c.args.store.now (length c.args.out.now) c.args.out.now
+    (ap not c.if-not-passes.false) c.passes.ensures c.in_err-set_text_refusal.field-0.0 c.in_err-set_text_refusal.ensures)
 
 pub setting_text-plan-requires : goal.setting_text-plan-requires
 setting_text-plan-requires c =
-    set_text_there c.args.store.now (ap not c.if-not-passes.false) c.passes.ensures c.args.element c.args.text.now (c.in_ok-set_text_refusal.ensures) refl
+    set_text_there c.args.store.now (ap not c.if-not-passes.false) c.passes.ensures c.args.element c.args.text.now c.in_ok-set_text_refusal.ensures refl
 
 pub edit-requires : goal.edit-requires
 edit-requires c =
     set_text_asks c.args.store.now (ap not c.if-not-passes.false) c.passes.ensures c.args.element c.args.text.now
-    (c.in_ok-set_text_refusal.ensures) refl
+    c.in_ok-set_text_refusal.ensures refl
     c.setting_text-plan.ensures
 
 pub returns : goal.returns
 returns c =
     made_planned (set_text c.args.element c.args.text.now) c.args.store.now (length c.args.out.now) c.args.out.now
     (set_text_plan (text_serial c.args.element (store_in c.args.store.now))) _ c.args.text.now (ap not c.if-not-passes.false)
-    c.passes.ensures (c.in_ok-set_text_refusal.ensures) refl
+    c.passes.ensures c.in_ok-set_text_refusal.ensures refl
     c.setting_text-plan.ensures
     (λ g e. set_text_planned (store_in c.args.store.now) g c.args.element c.args.text.now) c.edit.ensures

@@ -6,46 +6,12 @@ use mathlib.Core.Path.{◌≡◌, refl, ap, sym, ◌∙◌}
 use mathlib.Core.Bool.{Bool, true, false, not, ◌&&◌, ◌||◌}
 use borrow.Author.Tests.{le-leb, lt-leb, eq-eqb, ne_eqb}
 use lib.Dec.{eqb}
-use Rattle.row_walk.specs.declared.Which.TheVariants.{Serial}
-use Rattle.row_walk.specs.declared.Later.TheVariants.{Unmarked}
 use Rattle.row_walk.specs.declared.Shift.{Shift}
 use Rattle.row_walk.specs.declared.Plan.{Plan}
 use Rattle.row_walk.specs.declared.Open.{Open}
 use Rattle.row_walk.specs.declared.Head.{Head}
 use Rattle.row_walk.specs.Walk.{matches, is_everything, names_ground, is_later, spared, shifted, moved_index, is_below_taken, closes, closed, is_below, is_taken, is_filled, after_taken, at_first}
-use Rattle.row_walk.specs.Lent.{which_in, later_in}
 use Rattle.row_walk.specs.Step.{valueless, kept_with, ends_due, is_plain, Moves}
-
--- ---- by the number of a variant, k
-pub which_serial : (k n : ℕ) → (k ≡ 0 → ⊥) → (k ≡ 1 → ⊥) → (k ≡ 2 → ⊥) → (k ≡ 3 → ⊥) → (k ≡ 4 → ⊥) → which_in k n ≡ Serial n
-which_serial zero n a b c d e = absurd (a refl)
-which_serial (suc zero) n a b c d e = absurd (b refl)
-which_serial (suc (suc zero)) n a b c d e = absurd (c refl)
-which_serial (suc (suc (suc zero))) n a b c d e = absurd (d refl)
-which_serial (suc (suc (suc (suc zero)))) n a b c d e = absurd (e refl)
-which_serial (suc (suc (suc (suc (suc k))))) n a b c d e = refl
-
-pub later_unmarked : (k n : ℕ) → (k ≡ 0 → ⊥) → (k ≡ 1 → ⊥) → (k ≡ 2 → ⊥) → later_in k n ≡ Unmarked
-later_unmarked zero n a b c = absurd (a refl)
-later_unmarked (suc zero) n a b c = absurd (b refl)
-later_unmarked (suc (suc zero)) n a b c = absurd (c refl)
-later_unmarked (suc (suc (suc k))) n a b c = refl
-
-pub everything_is : (k n : ℕ) → eqb k 1 ≡ is_everything (which_in k n)
-everything_is zero n = refl
-everything_is (suc zero) n = refl
-everything_is (suc (suc zero)) n = refl
-everything_is (suc (suc (suc zero))) n = refl
-everything_is (suc (suc (suc (suc zero)))) n = refl
-everything_is (suc (suc (suc (suc (suc k))))) n = ne_eqb (suc (suc (suc (suc (suc k))))) 1 (λ e. omega arith)
-
-ground_is : (k n : ℕ) → eqb k 2 ≡ names_ground (which_in k n)
-ground_is zero n = refl
-ground_is (suc zero) n = refl
-ground_is (suc (suc zero)) n = refl
-ground_is (suc (suc (suc zero))) n = refl
-ground_is (suc (suc (suc (suc zero)))) n = refl
-ground_is (suc (suc (suc (suc (suc k))))) n = ne_eqb (suc (suc (suc (suc (suc k))))) 2 (λ e. omega arith)
 
 -- ---- renumbering
 module _ (s : Shift) (i : ℕ) (small : i ≤ 1000) where
@@ -113,9 +79,9 @@ module _ (o : Open) (h : Head) where
         let takes = et ∙ ap (λ (z : Open). is_taken p z (valueless h)) eq in
         λ j. (not (eg j) && not ((ec j && o.due) || ends j)) && (not (takes j) && (eqb (ei j) h.index && not (eqb h.serial p.set)))
 
-module _ (p : Plan) (k n : ℕ) (e : p.above ≡ which_in k n) where
-  pub first_ground : k ≡ 2 → ◌≡◌ {A = Open} (record { taking = 0; below = 1; due = p.fills }) (at_first p)
-  first_ground t = let u : names_ground p.above ≡ true = ap names_ground e ∙ sym (ground_is k n) ∙ eq-eqb k 2 t in rw (u, at_first)
+module _ (p : Plan) (g : Bool) (e : g ≡ names_ground p.above) where
+  pub first_ground : g ≡ true → ◌≡◌ {A = Open} (record { taking = 0; below = 1; due = p.fills }) (at_first p)
+  first_ground t = let u : names_ground p.above ≡ true = sym e ∙ t in rw (u, at_first)
 
-  pub first_other : (k ≡ 2 → ⊥) → ◌≡◌ {A = Open} (record { taking = 0; below = 0; due = false }) (at_first p)
-  first_other t = let u : names_ground p.above ≡ false = ap names_ground e ∙ sym (ground_is k n) ∙ ne_eqb k 2 t in rw (u, at_first)
+  pub first_other : g ≡ false → ◌≡◌ {A = Open} (record { taking = 0; below = 0; due = false }) (at_first p)
+  first_other t = let u : names_ground p.above ≡ false = sym e ∙ t in rw (u, at_first)

@@ -7,10 +7,10 @@ use Rattle.filling.proofs.put_attribute.Goals as goal
 pub returns-then-needs : goal.returns-then-needs
 returns-then-needs c =
     let a = c.args in
-    needed_written a.version a.w a.attrs.now a.depth a.i a.j c.needs.ensures c.if-needs.true
-    c.created_value.ensures.0 c.put_row.ensures
+    needed_written a.form.now a.depth a.i a.j c.needs.ensures c.if-needs.true
+    c.created_value-value.ensures.0 c.put_new.ensures
 
 pub returns-else-needs : goal.returns-else-needs
 returns-else-needs c =
     let a = c.args in
-    spare_written a.version a.w a.attrs.now a.depth a.i a.j c.needs.ensures c.if-needs.false
+    spare_written a.form.now a.depth a.i a.j c.needs.ensures c.if-needs.false

@@ -9,12 +9,12 @@ use Rattle.row_bound.proofs.most_added.Goals as goal
 
 pub returns-then-not-plan : goal.returns-then-not-plan
 returns-then-not-plan c = let a = c.args in
-    bounds_none a.version a.w a.n a.defs.now a.parts.now a.a a.attrs.now a.rows.now a.count a.plan a.text.now c.requires.1
+    bounds_none a.form.now a.rows.now a.count a.plan a.text.now c.requires.1
     (not-true c.args.plan.fills c.if-not-plan.true)
 
 pub returns-then-one-eq0 : goal.returns-then-one-eq0
 returns-then-one-eq0 c = let a = c.args in
-    bounds_empty a.version a.w a.n a.defs.now a.parts.now a.a a.attrs.now a.rows.now a.count a.plan a.text.now c.requires.1
+    bounds_empty a.form.now a.rows.now a.count a.plan a.text.now c.requires.1
     c.filling_rows-one.ensures.0 c.if-one-eq0.true
 
 pub overflow_mul-all : goal.overflow_mul-all
@@ -25,5 +25,5 @@ pub returns : goal.returns
 returns c =
     let a = c.args in
     let counted = c.filling_rows-one.ensures in
-    bounds_places a.version a.w a.n a.defs.now a.parts.now a.a a.attrs.now a.rows.now a.count a.plan a.text.now c.requires.1
+    bounds_places a.form.now a.rows.now a.count a.plan a.text.now c.requires.1
     counted.0 counted.1 c.places.ensures

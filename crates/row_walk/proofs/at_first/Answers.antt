@@ -2,17 +2,15 @@
 -- (`first_ground` of RowLaws) or another (`first_other`).
 use Rattle.row_walk.proofs.RowLaws.{first_ground, first_other}
 use mathlib.Core.Path.{refl}
-use mathlib.Core.List.{[]}
-use Rattle.row_walk.specs.Lent.{plan_in}
 use borrow.Author.Rules.{rules}
 use Rattle.row_walk.proofs.at_first.Goals as goal
 
 pub returns-then-p-eq2 : goal.returns-then-p-eq2
 returns-then-p-eq2 c =
     let a = c.args in
-    first_ground (plan_in a.p.now []) _ _ refl c.if-p-eq2.true
+    first_ground a.plan.now _ _ refl c.if-p-eq2.true
 
 pub returns : goal.returns
 returns c =
     let a = c.args in
-    first_other (plan_in a.p.now []) _ _ refl c.if-p-eq2.false
+    first_other a.plan.now _ _ refl c.if-p-eq2.false

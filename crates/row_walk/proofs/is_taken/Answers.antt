@@ -2,8 +2,6 @@
 -- `is_everything` (`everything_is` of RowLaws), and for the answers of `is_below` and `matches` (`taken_by`).
 use lib.ListN.{get_or}
 use Rattle.row_walk.proofs.RowLaws.{everything_is, taken_by}
-use mathlib.Core.List.{[]}
-use Rattle.row_walk.specs.Lent.{plan_in}
 use borrow.Author.Rules.{rules}
 use Rattle.row_walk.proofs.is_taken.Goals as goal
 
@@ -11,4 +9,4 @@ pub returns : goal.returns
 returns c =
     let a = c.args in
     let all = everything_is (get_or a.p.now 0 0) (get_or a.p.now 1 0) in
-    taken_by a.o a.h (plan_in a.p.now []) _ _ _ all c.is_below.ensures c.matches.ensures
+    taken_by a.o a.h a.plan.now _ _ _ all c.is_below.ensures c.matches.ensures

@@ -6,4 +6,4 @@ use Rattle.walk_writer.proofs.filling_with_rows.Goals as goal
 
 pub returns : goal.returns
 returns c =
-    settled_nothing c.args.what c.put_any.ensures c.if-c-eq0.false
+    settled_nothing c.args.what c.put_filling.ensures c.if-c-eq0.false

@@ -5,7 +5,6 @@ use native.Mathlib.Omega.{arith}
 use mathlib.Core.Path.{refl, sym, ◌∙◌}
 use borrow.Author.Tests.{not-false}
 use lib.Seq.{length-take-le}
-use Rattle.row_walk.specs.Lent.{plan_in}
 use Rattle.walk_writer.proofs.PlainLaws.{Staying, staying_start, staying_end, staying_first, staying_fair, staying_step}
 use borrow.Author.Rules.{rules}
 use Rattle.walk_writer.proofs.plain_rows.Goals as goal

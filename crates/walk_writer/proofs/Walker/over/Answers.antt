@@ -1,18 +1,15 @@
--- `walk_writer::walk_lent` meets its contract: the invariant holds before the first row (`going_start` of WalkLaws) and
+-- `walk_writer::Walker::over` meets its contract: the invariant holds before the first row (`going_start` of WalkLaws) and
 -- after each pass (`going_pass`), whose bytes are there and few (`pass_long`, `pass_small`); it gives the contract
 -- where no row may be written any more (`going_stop`), and past the last row by the filling still due (`going_end`).
 use mathlib.Core.Path.{refl, ◌∙◌}
 use native.Mathlib.Omega.{arith}
 use Rattle.rules.specs.Layout.{row_size}
 use Rattle.rules.specs.Decode.{read_row, read_many}
-use Rattle.filling.specs.Parts.{width_in}
 use Rattle.row_walk.specs.Walk.{walked, at_first}
-use Rattle.row_walk.specs.Lent.{plan_in}
-use Rattle.walk_writer.specs.Step.{fill_in, WalkOn}
 use Rattle.walk_writer.proofs.StepLaws.{asks_of}
 use Rattle.walk_writer.proofs.WalkLaws.{going_start, going_stop, pass_long, pass_small, going_pass, going_end}
 use borrow.Author.Rules.{rules}
-use Rattle.walk_writer.proofs.walk_lent.Goals as goal
+use Rattle.walk_writer.proofs.Walker.over.Goals as goal
 
 pub row_size-size-requires : goal.row_size-size-requires
 row_size-size-requires c =
@@ -26,34 +23,34 @@ pub returns-then-at-eq0 : goal.returns-then-at-eq0
 returns-then-at-eq0 c =
     going_stop c.loop-m.invariant c.if-at-eq0.true
 
-pub pass-s-requires : goal.pass-s-requires
-pass-s-requires c =
+pub pass-run-requires : goal.pass-run-requires
+pass-run-requires c =
     let going = c.loop-m.invariant in
     (c.requires.0, going.rows, going.size, going.near, going.room, c.loop-m-test.true, omega (arith, c.if-at-eq0.false))
 
 pub overflow_mul-long : goal.overflow_mul-long
 overflow_mul-long c =
-    record { fits = omega (arith, pass_small c.loop-m.invariant c.pass-s.ensures c.row_size-size.ensures refl) }
+    record { fits = omega (arith, pass_small c.loop-m.invariant c.pass-run.ensures c.row_size-size.ensures refl) }
 
 pub slice_bounds-t-count : goal.slice_bounds-t-count
 slice_bounds-t-count c =
-    pass_long c.loop-m.invariant c.pass-s.ensures c.row_size-size.ensures refl
+    pass_long c.loop-m.invariant c.pass-run.ensures c.row_size-size.ensures refl
 
 pub slice_bounds-t-start : goal.slice_bounds-t-start
 slice_bounds-t-start c =
-    pass_long c.loop-m.invariant c.pass-s.ensures c.row_size-size.ensures refl
+    pass_long c.loop-m.invariant c.pass-run.ensures c.row_size-size.ensures refl
 
 pub overflow_sub-m : goal.overflow_sub-m
 overflow_sub-m c =
-    omega (arith, c.pass-s.ensures.few)
+    omega (arith, c.pass-run.ensures.few)
 
 pub loop-m-smaller : goal.loop-m-smaller
 loop-m-smaller c =
-    omega (arith, c.pass-s.ensures.few, c.pass-s.ensures.further)
+    omega (arith, c.pass-run.ensures.few, c.pass-run.ensures.further)
 
 pub loop-m-preserved : goal.loop-m-preserved
 loop-m-preserved c =
-    going_pass c.loop-m.invariant c.pass-s.ensures c.row_size-size.ensures refl
+    going_pass c.loop-m.invariant c.pass-run.ensures c.row_size-size.ensures refl
 
 pub put_owed-requires : goal.put_owed-requires
 put_owed-requires c =

@@ -1,20 +1,19 @@
--- `walk_writer::come` meets its contract: a row that is taken gives no row (`came_taken` of StepLaws); where a filling
+-- `walk_writer::Walker::come` meets its contract: a row that is taken gives no row (`came_taken` of StepLaws); where a filling
 -- may come before it, the contract of `come_due` is this one; else the row alone is written (`row_kept`, `came_still`),
 -- and what is due stays due (`due_still`, `kept_due`).
 use mathlib.Core.Path.{ap, sym, ◌∙◌}
 use mathlib.Core.Bool.{Bool, ◌&&◌}
-use Rattle.walk_writer.specs.Step.{fill_in}
-use Rattle.row_walk.specs.Lent.{plan_in}
+use Rattle.walk_writer.specs.Going.{fill_by}
 use Rattle.walk_writer.proofs.StepLaws.{came_taken, came_still, row_kept, due_still, kept_due}
 use borrow.Author.Rules.{rules}
-use Rattle.walk_writer.proofs.come.Goals as goal
+use Rattle.walk_writer.proofs.Walker.come.Goals as goal
 
 pub returns-then-is_taken : goal.returns-then-is_taken
 returns-then-is_taken c =
     let a = c.args in
-    let p = plan_in a.p.now a.marks.now in
-    let fill = fill_in a.sizes.now a.form.now p a.text.now in
-    came_taken p a.text.now fill a.o a.h a.row.now c.requires.1 _ c.is_taken.ensures c.if-is_taken.true
+    let p = a.self.now.plan.now in
+    let fill = fill_by a.self.now in
+    came_taken p a.self.now.text.now fill a.o a.h a.row.now c.requires.1 _ c.is_taken.ensures c.if-is_taken.true
     _ c.taken.ensures
 
 pub come_due-requires : goal.come_due-requires
@@ -29,10 +28,10 @@ moved_index-index-requires c =
 pub returns : goal.returns
 returns c =
     let a = c.args in
-    let p = plan_in a.p.now a.marks.now in
-    let fill = fill_in a.sizes.now a.form.now p a.text.now in
+    let p = a.self.now.plan.now in
+    let fill = fill_by a.self.now in
     let none = ap (λ (z : Bool). a.o.due && z) (sym c.is_below.ensures) ∙ c.if-o-is_below.false in
-    let row = row_kept p a.text.now a.h a.row.now c.requires.1 _ c.moved_index-index.ensures.0
-    c.put_row-next.ensures in
-    came_still p a.text.now fill a.o a.h a.row.now c.requires.1 _ c.is_taken.ensures c.if-is_taken.false none
+    let row = row_kept p a.self.now.text.now a.h a.row.now c.requires.1 _ c.moved_index-index.ensures.0
+    c.put_row.ensures in
+    came_still p a.self.now.text.now fill a.o a.h a.row.now c.requires.1 _ c.is_taken.ensures c.if-is_taken.false none
     row _ (kept_due p a.o a.h c.kept.ensures (due_still a.o.due _ _ none))

@@ -1,20 +1,19 @@
--- `walk_writer::come_due` meets its contract: the filling, if it comes before the row, and then the row itself
+-- `walk_writer::Walker::come_due` meets its contract: the filling, if it comes before the row, and then the row itself
 -- (`row_kept` of StepLaws) are what comes of a row that is not taken (`came_kept`), and `kept` gives what is open after
 -- it (`kept_due`); the row's depth is one at which a filling may be written (`asks_of`).
 use native.Mathlib.Omega.{arith}
 use mathlib.Core.Path.{refl, sym}
 use mathlib.Core.Bool.{false, not, ◌&&◌}
-use Rattle.walk_writer.specs.Step.{fill_in}
-use Rattle.row_walk.specs.Lent.{plan_in}
+use Rattle.walk_writer.specs.Going.{fill_by}
 use Rattle.walk_writer.proofs.StepLaws.{asks_of, row_kept, came_kept, kept_due}
 use borrow.Author.Rules.{rules}
-use Rattle.walk_writer.proofs.come_due.Goals as goal
+use Rattle.walk_writer.proofs.Walker.come_due.Goals as goal
 
 pub is_filled-filled-requires : goal.is_filled-filled-requires
 is_filled-filled-requires c = c.requires.1.fair
 
-pub put_owed-at-requires : goal.put_owed-at-requires
-put_owed-at-requires c =
+pub put_owed-requires : goal.put_owed-requires
+put_owed-requires c =
     (c.requires.0.filling, asks_of c.requires.0 c.requires.2 (omega (arith, c.requires.1.fair.depth)))
 
 pub moved_index-index-requires : goal.moved_index-index-requires
@@ -22,10 +21,10 @@ moved_index-index-requires c =
     let plan = c.requires.0.plan in
     (plan.definitions, plan.attributes, c.requires.1.fair)
 
-pub put_row-next-requires : goal.put_row-next-requires
-put_row-next-requires c =
+pub put_row-requires : goal.put_row-requires
+put_row-requires c =
     let ready = c.requires.0 in
-    (ready.width, c.moved_index-index.ensures.1, ready.text, c.requires.1.old, c.put_owed-at.ensures.room c.requires.2)
+    (ready.width, c.moved_index-index.ensures.1, ready.text, c.requires.1.old, c.put_owed.ensures.room c.requires.2)
 
 pub is_below-requires : goal.is_below-requires
 is_below-requires c =
@@ -38,10 +37,10 @@ kept-requires c =
 pub returns : goal.returns
 returns c =
     let a = c.args in
-    let p = plan_in a.p.now a.marks.now in
-    let fill = fill_in a.sizes.now a.form.now p a.text.now in
-    let row = row_kept p a.text.now a.h a.row.now c.requires.1 _ c.moved_index-index.ensures.0
-    c.put_row-next.ensures in
-    came_kept p a.text.now fill a.o a.h a.row.now c.requires.1 false (sym c.requires.3) refl _
-    c.is_filled-filled.ensures c.put_owed-at.ensures row _
+    let p = a.self.now.plan.now in
+    let fill = fill_by a.self.now in
+    let row = row_kept p a.self.now.text.now a.h a.row.now c.requires.1 _ c.moved_index-index.ensures.0
+    c.put_row.ensures in
+    came_kept p a.self.now.text.now fill a.o a.h a.row.now c.requires.1 false (sym c.requires.3) refl _
+    c.is_filled-filled.ensures c.put_owed.ensures row _
     (kept_due p a.o a.h c.kept.ensures (λ j. a.o.due && not (c.is_below.ensures j && c.is_later.ensures j)))

@@ -1,20 +1,19 @@
--- `walk_writer::pass` meets its contract: if all rows that may be written stay as they are, the block is what was
+-- `walk_writer::Walker::pass` meets its contract: if all rows that may be written stay as they are, the block is what was
 -- passed (`passes_block` of WalkLaws), else the block and the row after it (`passes_row`); both are of an old store
 -- (`rows_within`, `rows_old`, `rows_at`), and their sizes are in range (`size_split`, `block_small` of BlockLaws).
 use Prim.Native.Nat.{ℕ, ◌-◌, ◌*◌, ◌≤◌}
 use native.Mathlib.Omega.{arith}
 use mathlib.Core.Path.{ap, refl}
 use Rattle.rules.specs.Layout.{row_size}
-use Rattle.filling.specs.Parts.{width_in}
 use Rattle.row_writer.proofs.BlockLaws.{size_split, block_small}
 use Rattle.walk_writer.proofs.WalkLaws.{rows_within, rows_old, rows_at, passes_block, passes_row}
 use borrow.Author.Rules.{rules}
-use Rattle.walk_writer.proofs.pass.Goals as goal
+use Rattle.walk_writer.proofs.Walker.pass.Goals as goal
 
 pub plain_rows-run-requires : goal.plain_rows-run-requires
 plain_rows-run-requires c =
     let a = c.args in
-    let w = width_in a.sizes.now in
+    let w = a.self.now.form.now.width in
     let ready = c.requires.0 in
     let most = a.count - c.minus.result in
     let l : most ≤ a.count = omega arith in
@@ -26,10 +25,10 @@ plain_rows-run-requires c =
       c.requires.3,
     )
 
-pub put_block-at-requires : goal.put_block-at-requires
-put_block-at-requires c =
+pub put_block-requires : goal.put_block-requires
+put_block-requires c =
     let a = c.args in
-    let w = width_in a.sizes.now in
+    let w = a.self.now.form.now.width in
     let run = c.plain_rows-run in
     let k = run.result.count in
     let l : k ≤ a.count = omega (arith, run.ensures.few) in
@@ -38,22 +37,22 @@ put_block-at-requires c =
 
 pub returns-then-run-most : goal.returns-then-run-most
 returns-then-run-most c =
-    passes_block c.plain_rows-run.ensures c.requires.1 c.requires.2 c.requires.4 (omega arith) c.put_block-at.ensures
+    passes_block c.plain_rows-run.ensures c.requires.1 c.requires.2 c.requires.4 (omega arith) c.put_block.ensures
     (omega (arith, c.requires.5, c.requires.6, c.minus.ensures)) (omega (arith, c.minus.ensures)) c.if-run-most.true
 
 pub overflow_mul-size : goal.overflow_mul-size
 overflow_mul-size c =
     let run = c.plain_rows-run in
-    let few : run.result.count ≤ c.args.c.left = omega (arith, run.ensures.few, c.minus.ensures) in
+    let few : run.result.count ≤ c.args.c.now.left = omega (arith, run.ensures.few, c.minus.ensures) in
     record { fits = omega (arith, block_small c.requires.4 few, ap (λ (i : ℕ). i * run.result.count) c.row_size-size.ensures) }
 
-pub step-s-requires : goal.step-s-requires
-step-s-requires c =
+pub step-opened-requires : goal.step-opened-requires
+step-opened-requires c =
     let a = c.args in
     let run = c.plain_rows-run in
-    let row = rows_at (width_in a.sizes.now) run.result.count a.count a.rows.now (omega (arith, run.ensures.few, c.if-run-most.false)) c.requires.1
+    let row = rows_at a.self.now.form.now.width run.result.count a.count a.rows.now (omega (arith, run.ensures.few, c.if-run-most.false)) c.requires.1
     c.row_size-size.ensures refl c.window-row.ensures in
-    (c.requires.0, row, run.ensures.near, c.put_block-at.ensures.room c.requires.4)
+    (c.requires.0, row, run.ensures.near, c.put_block.ensures.room c.requires.4)
 
 pub overflow_add-result : goal.overflow_add-result
 overflow_add-result c =
@@ -61,5 +60,5 @@ overflow_add-result c =
 
 pub returns : goal.returns
 returns c =
-    passes_row c.plain_rows-run.ensures c.requires.1 c.requires.2 c.requires.4 (omega arith) c.put_block-at.ensures
-    (omega (arith, c.minus.ensures)) c.if-run-most.false c.row_size-size.ensures refl c.window-row.ensures c.step-s.ensures
+    passes_row c.plain_rows-run.ensures c.requires.1 c.requires.2 c.requires.4 (omega arith) c.put_block.ensures
+    (omega (arith, c.minus.ensures)) c.if-run-most.false c.row_size-size.ensures refl c.window-row.ensures c.step-opened.ensures

@@ -1,27 +1,26 @@
--- `walk_writer::step` meets its contract: a row below one that is taken gives no row and leaves open what is open
+-- `walk_writer::Walker::step` meets its contract: a row below one that is taken gives no row and leaves open what is open
 -- (`step_gone` of StepLaws); else the filling that it closes, if due, and then what `come` writes are what comes of it
 -- (`step_on`), with the head that was read (`seen`); the filling's depth is one at which it may be written (`asks_of`).
 use native.Mathlib.Omega.{arith}
-use Rattle.walk_writer.specs.Step.{fill_in}
-use Rattle.row_walk.specs.Lent.{plan_in}
+use Rattle.walk_writer.specs.Going.{fill_by}
 use Rattle.walk_writer.proofs.StepLaws.{asks_of, seen, step_gone, step_on}
 use borrow.Author.Rules.{rules}
-use Rattle.walk_writer.proofs.step.Goals as goal
+use Rattle.walk_writer.proofs.Walker.step.Goals as goal
 
 pub returns-then-gone : goal.returns-then-gone
 returns-then-gone c =
     let a = c.args in
-    let p = plan_in a.p.now a.marks.now in
-    let fill = fill_in a.sizes.now a.form.now p a.text.now in
-    step_gone p a.text.now fill a.o _ a.row.now (seen c.requires.1 c.read_head-h.ensures) _
+    let p = a.self.now.plan.now in
+    let fill = fill_by a.self.now in
+    step_gone p a.self.now.text.now fill a.o _ a.row.now (seen c.requires.1 c.read_head-h.ensures) _
     c.gone.ensures c.if-gone.true
 
 pub closes-requires : goal.closes-requires
 closes-requires c =
     (seen c.requires.1 c.read_head-h.ensures).fair
 
-pub put_owed-at-requires : goal.put_owed-at-requires
-put_owed-at-requires c =
+pub put_owed-requires : goal.put_owed-requires
+put_owed-requires c =
     (c.requires.0.filling, asks_of c.requires.0 c.requires.3 (omega (arith, c.requires.2.below, c.minus-depth.ensures)))
 
 pub closed-q-requires : goal.closed-q-requires
@@ -30,13 +29,13 @@ closed-q-requires c =
 
 pub come-requires : goal.come-requires
 come-requires c =
-    (c.requires.0, seen c.requires.1 c.read_head-h.ensures, c.put_owed-at.ensures.room c.requires.3)
+    (c.requires.0, seen c.requires.1 c.read_head-h.ensures, c.put_owed.ensures.room c.requires.3)
 
 pub returns : goal.returns
 returns c =
     let a = c.args in
-    let p = plan_in a.p.now a.marks.now in
-    let fill = fill_in a.sizes.now a.form.now p a.text.now in
-    step_on p a.text.now fill a.o _ a.row.now (seen c.requires.1 c.read_head-h.ensures) _
+    let p = a.self.now.plan.now in
+    let fill = fill_by a.self.now in
+    step_on p a.self.now.text.now fill a.o _ a.row.now (seen c.requires.1 c.read_head-h.ensures) _
     c.gone.ensures c.if-gone.false _ c.closes.ensures _ c.minus-depth.ensures _ c.closed-q.ensures
-    c.put_owed-at.ensures c.come.ensures
+    c.put_owed.ensures c.come.ensures

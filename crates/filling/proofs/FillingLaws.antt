@@ -29,14 +29,14 @@ use Rattle.model.proofs.MembersLaws.{members_few, members_deeper, members_stop, 
 use Rattle.form_index.specs.Indices.{IndexForm}
 use Rattle.layout.specs.Bodies.{record_at}
 use Rattle.layout.proofs.LayoutLaws.{attribute_value_short}
-use Rattle.form_index.specs.Reading.{definition_in, attribute_in, particles_before, model_part, attributes_of, index_form}
+use Rattle.form_index.specs.Reading.{definition_in, attribute_in, particles_before, model_part}
 use Rattle.row_writer.specs.declared.Cursor.{Cursor}
 use Rattle.row_writer.specs.Written.{Written, Room, new_row}
 use Rattle.row_writer.proofs.WrittenLaws.{written_none, written_then, written_as, written_room, written_long}
 use Rattle.filling.proofs.NeededLaws.{unless_none}
 use Rattle.filling.specs.declared.Filling.{Filling}
 use Rattle.filling.specs.declared.Filling.TheVariants.{Nothing, Definition, Attribute, Particles}
-use Rattle.filling.specs.Fillings.{new_element, new_attribute_row, required_rows, fillings_of, content_rows, fill_index, group_filled, filling_rows}
+use Rattle.filling.specs.Fillings.{new_element, new_attribute_row, required_rows, fillings_of, content_rows, fill_index, group_filled}
 use Rattle.filling.specs.Parts.{left_out, passed, settled, sort_nothing, member_nothing, what_filling, member_filling, value_in, required_at, required_in}
 use Rattle.filling.specs.Parts.{index_form_in, values_in, definition_rows, member_rows, below_rows, members_read_at, fill_with, Indexed}
 use Rattle.layout.specs.declared.Form.{Form}

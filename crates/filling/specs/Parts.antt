@@ -17,13 +17,13 @@ use Rattle.model.specs.Members.{particles_of, members_from, all_members}
 use Rattle.layout.specs.Bodies.{Width}
 use Rattle.layout.specs.declared.Form.{Form}
 use Rattle.form_index.specs.Indices.{IndexForm}
-use Rattle.form_index.specs.Reading.{definition_in, attribute_in, model_part, attributes_of, index_form}
+use Rattle.form_index.specs.Reading.{definition_in, attribute_in, model_part, index_form}
 use Rattle.row_writer.specs.declared.Cursor.{Cursor}
 use Rattle.row_writer.specs.Written.{Room}
 use Rattle.filling.specs.declared.Filling.{Filling}
 use Rattle.filling.specs.declared.Filling.TheVariants.{Nothing, Definition, Attribute, Particles}
 use Rattle.filling.specs.Fillings.{required_rows, fillings_of, content_rows, fill_index, filling_rows}
-use Rattle.layout.specs.Fields.{particle_depth_at, particle_index_at, particle_quantifier_at, particle_sort_at}
+use Rattle.layout.specs.Fields.{particle_quantifier_at, particle_sort_at}
 use Rattle.rules.specs.Layout.{particle_size}
 
 -- ---- 'a particle that accepts nothing fills with nothing'

@@ -176,14 +176,7 @@ fn created_value(w: usize, attrs: &[u8], j: usize) -> &[u8]
 // the stack are to stay small.
 
 // Writes attribute j, if it is one that definition i needs.
-fn put_attribute(
-    form: &Form<'_>,
-    i: usize,
-    j: usize,
-    depth: usize,
-    c: &mut Cursor,
-    out: &mut [u8],
-)
+fn put_attribute(form: &Form<'_>, i: usize, j: usize, depth: usize, c: &mut Cursor, out: &mut [u8])
     requires { Width form.now.width × Room form.now.width c.old × (j < 64) × (depth < 256) }
     ensures { Written form.now.width (required_at form.now depth i j) c.old out.old c.new out.new }
 {
@@ -336,17 +329,7 @@ fn put_below(
             if needs_no_element(s, 0) {
                 return;
             }
-            put_group(
-                s,
-                0,
-                GroupKind::Sequence,
-                form,
-                text,
-                h,
-                depth,
-                c,
-                out,
-            )
+            put_group(s, 0, GroupKind::Sequence, form, text, h, depth, c, out)
         }
     }
 }

@@ -10,19 +10,17 @@
 -- (`member_group`). With each call falls the height or, at one height, the bytes of particles (`rank_height`,
 -- `rank_part`, `rank_particles`).
 use mathlib.Core.Path.{refl, sym, ◌∙◌}
-use mathlib.Core.Logic.{⊎_elim}
 use mathlib.Core.Bool.{false}
 use lib.ListN.{take, drop, length-take, length-drop, length}
 use Rattle.rules.specs.declared.GroupKind.TheVariants.{Sequence}
-use Rattle.row_writer.proofs.WrittenLaws.{written_stop, written_room, written_long}
-use Rattle.filling.proofs.FillingLaws.{Rest, rest_starts, rest_past, rest_here, rest_on, rest_first, rest_over, rest_ends, member_skips, member_element}
+use Rattle.row_writer.proofs.WrittenLaws.{written_stop, written_room}
+use Rattle.filling.proofs.FillingLaws.{rest_starts, rest_past, rest_here, rest_on, rest_first, rest_over, rest_ends, member_skips, member_element}
 use Rattle.filling.proofs.FillingLaws.{member_empty, member_nothing_lem, member_group, definition_low, definition_written, below_none, below_text, below_group}
-use Rattle.filling.proofs.FillingLaws.{none_written, one_written, same_written, index_small, top, rank, rank_particles, rank_part, rank_height}
+use Rattle.filling.proofs.FillingLaws.{none_written, one_written, same_written, index_small, rank_particles, rank_part, rank_height}
 use Rattle.filling.proofs.FillingLaws.{part_short, below_nothing, filled_list, filled_choice}
 use Rattle.filling.proofs.NeededLaws.{no_element_filled}
-use borrow.Author.Rules.{rules}
 use native.Mathlib.Omega.{arith}
-use Prim.Native.Nat.{ℕ, ◌<◌, ◌+◌, ◌-◌, ◌*◌}
+use Prim.Native.Nat.{◌<◌, ◌+◌, ◌-◌, ◌*◌}
 use Rattle.rules.specs.Layout.{particle_size}
 use Rattle.filling.proofs.+put_below_put_definition_put_group_put_member.Goals as goal
 use Rattle.filling.proofs.+put_below_put_definition_put_group_put_member.Goals.{put_member-in-Sequence, put_member-in-Choice+else-accepts_nothing}

@@ -1,18 +1,7 @@
-use mathlib.Core.Path.{refl, sym, ◌∙◌}
-use mathlib.Core.Logic.{⊎_elim}
-use mathlib.Core.Bool.{false}
-use lib.ListN.{take, drop, length-take, length-drop, length}
-use Rattle.rules.specs.declared.GroupKind.TheVariants.{Sequence}
-use Rattle.row_writer.proofs.WrittenLaws.{written_stop, written_room, written_long}
-use Rattle.filling.proofs.FillingLaws.{Rest, rest_starts, rest_past, rest_here, rest_on, rest_first, rest_over, rest_ends, member_skips, member_element}
-use Rattle.filling.proofs.FillingLaws.{member_empty, member_nothing_lem, member_group, definition_low, definition_written, below_none, below_text, below_group}
-use Rattle.filling.proofs.FillingLaws.{none_written, one_written, same_written, index_small, top, rank, rank_particles, rank_part, rank_height}
-use Rattle.filling.proofs.FillingLaws.{part_short, below_nothing, filled_list, filled_choice}
-use Rattle.filling.proofs.NeededLaws.{no_element_filled}
-use borrow.Author.Rules.{rules}
-use native.Mathlib.Omega.{arith}
-use Prim.Native.Nat.{ℕ, ◌<◌, ◌+◌, ◌-◌, ◌*◌}
-use Rattle.rules.specs.Layout.{particle_size}
+use lib.ListN.{length}
+use Rattle.filling.proofs.FillingLaws.{Rest}
+use Rattle.filling.proofs.FillingLaws.{top, rank}
+use Prim.Native.Nat.{◌+◌, ◌*◌}
 use Rattle.filling.proofs.+put_below_put_definition_put_group_put_member.Given as goal
 
 abbrev pub decreases-put_below : goal.decreases-put_below

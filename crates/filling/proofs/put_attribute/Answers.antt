@@ -1,7 +1,6 @@
 -- `filling::put_attribute` meets its contract: `required_at` is the one row that is written where definition i needs
 -- attribute j (`needed_written` of FillingLaws), and no row where it does not (`spare_written`).
 use Rattle.filling.proofs.FillingLaws.{spare_written, needed_written}
-use borrow.Author.Rules.{rules}
 use Rattle.filling.proofs.put_attribute.Goals as goal
 
 pub returns-then-needs : goal.returns-then-needs

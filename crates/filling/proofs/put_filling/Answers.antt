@@ -2,7 +2,6 @@
 -- (`nothing_filled`, `definition_filled`, `attribute_filled`, `particles_filled` of FillingLaws).
 use native.Mathlib.Omega.{arith}
 use Rattle.filling.proofs.FillingLaws.{nothing_filled, definition_filled, attribute_filled, particles_filled, filled_definition, filled_attribute, filled_particles}
-use borrow.Author.Rules.{rules}
 use Rattle.filling.proofs.put_filling.Goals as goal
 
 pub put_definition-requires : goal.put_definition-requires

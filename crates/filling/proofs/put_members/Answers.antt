@@ -4,7 +4,6 @@
 use Rattle.filling.specs.Fillings.{group_filled}
 use Rattle.filling.specs.Parts.{members_read_at}
 use Rattle.filling.proofs.FillingLaws.{none_written, same_written, group_empty, group_full}
-use borrow.Author.Rules.{rules}
 use Rattle.filling.proofs.put_members.Goals as goal
 
 pub returns-then-fills_nothing : goal.returns-then-fills_nothing

@@ -2,7 +2,6 @@
 -- FillingLaws) and after each, by the contract of `put_attribute` (`required_on`); past the last it is the contract.
 -- What is written leaves the room that `put_attribute` requires (`written_room` of WrittenLaws in `row_writer`).
 use native.Mathlib.Omega.{arith}
-use borrow.Author.Rules.{rules}
 use Rattle.row_writer.proofs.WrittenLaws.{written_room}
 use Rattle.filling.proofs.FillingLaws.{required_none, required_on}
 use Rattle.filling.proofs.put_required.Goals as goal

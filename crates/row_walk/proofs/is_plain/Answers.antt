@@ -2,7 +2,6 @@
 -- called, which by their contracts are those that it joins, `ends_due` and `is_taken` at what `closed` leaves open
 -- (`plain_by` of RowLaws).
 use Rattle.row_walk.proofs.RowLaws.{plain_by_lem}
-use borrow.Author.Rules.{rules}
 use Rattle.row_walk.proofs.is_plain.Goals as goal
 
 pub returns : goal.returns

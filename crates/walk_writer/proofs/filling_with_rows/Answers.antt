@@ -1,6 +1,5 @@
 -- `walk_writer::filling_with_rows` meets its contract: a filling may stand for itself; `Nothing` stands for it where no
 -- row of it was written though one might be, as it then has no rows (`settled_nothing` of SettledLaws).
-use borrow.Author.Rules.{rules}
 use Rattle.walk_writer.proofs.SettledLaws.{settled_nothing}
 use Rattle.walk_writer.proofs.filling_with_rows.Goals as goal
 

@@ -3,10 +3,8 @@
 -- (`staying_end`); each row is whole and its numbers are low (`staying_first`, `staying_fair`).
 use native.Mathlib.Omega.{arith}
 use mathlib.Core.Path.{refl, sym, ◌∙◌}
-use borrow.Author.Tests.{not-false}
 use lib.Seq.{length-take-le}
-use Rattle.walk_writer.proofs.PlainLaws.{Staying, staying_start, staying_end, staying_first, staying_fair, staying_step}
-use borrow.Author.Rules.{rules}
+use Rattle.walk_writer.proofs.PlainLaws.{staying_start, staying_end, staying_first, staying_fair, staying_step}
 use Rattle.walk_writer.proofs.plain_rows.Goals as goal
 
 pub loop-m-init : goal.loop-m-init

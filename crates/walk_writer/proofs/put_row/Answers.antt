@@ -1,7 +1,6 @@
 -- `walk_writer::put_row` meets its contract: the case split is on `valued`: the row is written with the text
 -- (`with_value` of StepLaws) or with its own value (`with_own`).
 use Rattle.walk_writer.proofs.StepLaws.{with_value_lem, with_own}
-use borrow.Author.Rules.{rules}
 use Rattle.walk_writer.proofs.put_row.Goals as goal
 
 pub returns-then-valued : goal.returns-then-valued

@@ -7,7 +7,6 @@ use Rattle.rules.specs.Decode.{read_row, read_many}
 use Rattle.row_writer.proofs.WrittenLaws.{written_as}
 use Rattle.walk_writer.proofs.StepLaws.{asks_of}
 use Rattle.walk_writer.proofs.SettledLaws.{ready_settled, walked_settled}
-use borrow.Author.Rules.{rules}
 use Rattle.walk_writer.proofs.walk.Goals as goal
 
 pub filling_with_rows-filling-requires : goal.filling_with_rows-filling-requires

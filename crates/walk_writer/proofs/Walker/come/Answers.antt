@@ -5,7 +5,6 @@ use mathlib.Core.Path.{ap, sym, ◌∙◌}
 use mathlib.Core.Bool.{Bool, ◌&&◌}
 use Rattle.walk_writer.specs.Going.{fill_by}
 use Rattle.walk_writer.proofs.StepLaws.{came_taken, came_still, row_kept, due_still, kept_due}
-use borrow.Author.Rules.{rules}
 use Rattle.walk_writer.proofs.Walker.come.Goals as goal
 
 pub returns-then-is_taken : goal.returns-then-is_taken

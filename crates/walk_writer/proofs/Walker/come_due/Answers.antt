@@ -6,7 +6,6 @@ use mathlib.Core.Path.{refl, sym}
 use mathlib.Core.Bool.{false, not, ◌&&◌}
 use Rattle.walk_writer.specs.Going.{fill_by}
 use Rattle.walk_writer.proofs.StepLaws.{asks_of, row_kept, came_kept, kept_due}
-use borrow.Author.Rules.{rules}
 use Rattle.walk_writer.proofs.Walker.come_due.Goals as goal
 
 pub is_filled-filled-requires : goal.is_filled-filled-requires

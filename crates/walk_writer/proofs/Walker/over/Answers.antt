@@ -1,14 +1,10 @@
 -- `walk_writer::Walker::over` meets its contract: the invariant holds before the first row (`going_start` of WalkLaws) and
 -- after each pass (`going_pass`), whose bytes are there and few (`pass_long`, `pass_small`); it gives the contract
 -- where no row may be written any more (`going_stop`), and past the last row by the filling still due (`going_end`).
-use mathlib.Core.Path.{refl, ◌∙◌}
+use mathlib.Core.Path.{refl}
 use native.Mathlib.Omega.{arith}
-use Rattle.rules.specs.Layout.{row_size}
-use Rattle.rules.specs.Decode.{read_row, read_many}
-use Rattle.row_walk.specs.Walk.{walked, at_first}
 use Rattle.walk_writer.proofs.StepLaws.{asks_of}
 use Rattle.walk_writer.proofs.WalkLaws.{going_start, going_stop, pass_long, pass_small, going_pass, going_end}
-use borrow.Author.Rules.{rules}
 use Rattle.walk_writer.proofs.Walker.over.Goals as goal
 
 pub row_size-size-requires : goal.row_size-size-requires
@@ -19,14 +15,14 @@ pub loop-m-init : goal.loop-m-init
 loop-m-init c =
     going_start c.requires.1 c.requires.2 c.requires.3 c.at_first-o.ensures
 
-pub returns-then-at-eq0 : goal.returns-then-at-eq0
-returns-then-at-eq0 c =
-    going_stop c.loop-m.invariant c.if-at-eq0.true
+pub returns-then-c-eq0 : goal.returns-then-c-eq0
+returns-then-c-eq0 c =
+    going_stop c.loop-m.invariant c.if-c-eq0.true
 
 pub pass-run-requires : goal.pass-run-requires
 pass-run-requires c =
     let going = c.loop-m.invariant in
-    (c.requires.0, going.rows, going.size, going.near, going.room, c.loop-m-test.true, omega (arith, c.if-at-eq0.false))
+    (c.requires.0, going.rows, going.size, going.near, going.room, c.loop-m-test.true, omega (arith, c.if-c-eq0.false))
 
 pub overflow_mul-long : goal.overflow_mul-long
 overflow_mul-long c =

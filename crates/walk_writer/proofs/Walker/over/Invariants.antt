@@ -1,13 +1,8 @@
-use mathlib.Core.Path.{refl, ◌∙◌}
-use native.Mathlib.Omega.{arith}
 use Rattle.rules.specs.Layout.{row_size}
 use Rattle.rules.specs.Decode.{read_row, read_many}
 use Rattle.row_walk.specs.Walk.{walked, at_first}
 use Rattle.walk_writer.specs.Step.{WalkOn}
 use Rattle.walk_writer.specs.Going.{fill_by}
-use Rattle.walk_writer.proofs.StepLaws.{asks_of}
-use Rattle.walk_writer.proofs.WalkLaws.{going_start, going_stop, pass_long, pass_small, going_pass, going_end}
-use borrow.Author.Rules.{rules}
 use Rattle.walk_writer.proofs.Walker.over.Given as goal
 
 -- once what comes of the rows that are left is written, all is

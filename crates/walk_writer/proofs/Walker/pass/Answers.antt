@@ -7,7 +7,6 @@ use mathlib.Core.Path.{ap, refl}
 use Rattle.rules.specs.Layout.{row_size}
 use Rattle.row_writer.proofs.BlockLaws.{size_split, block_small}
 use Rattle.walk_writer.proofs.WalkLaws.{rows_within, rows_old, rows_at, passes_block, passes_row}
-use borrow.Author.Rules.{rules}
 use Rattle.walk_writer.proofs.Walker.pass.Goals as goal
 
 pub plain_rows-run-requires : goal.plain_rows-run-requires

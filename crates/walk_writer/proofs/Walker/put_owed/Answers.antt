@@ -1,7 +1,6 @@
 -- `walk_writer::Walker::put_owed` meets its contract: if the filling is due, `put_filling` writes its rows (`owed_put`
 -- of StepLaws), and else no row is written (`owed_none`).
 use Rattle.walk_writer.proofs.StepLaws.{owed_put, owed_none}
-use borrow.Author.Rules.{rules}
 use Rattle.walk_writer.proofs.Walker.put_owed.Goals as goal
 
 pub returns-then-due : goal.returns-then-due

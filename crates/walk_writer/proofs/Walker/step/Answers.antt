@@ -4,7 +4,6 @@
 use native.Mathlib.Omega.{arith}
 use Rattle.walk_writer.specs.Going.{fill_by}
 use Rattle.walk_writer.proofs.StepLaws.{asks_of, seen, step_gone, step_on}
-use borrow.Author.Rules.{rules}
 use Rattle.walk_writer.proofs.Walker.step.Goals as goal
 
 pub returns-then-gone : goal.returns-then-gone

@@ -1,23 +1,11 @@
 -- `walk_writer::walk` meets its contract: the filling of `filling_with_rows` stands for that of the plan, so that the
 -- walk with it writes the same rows (`walked_settled` of SettledLaws; `written_as` of WrittenLaws), and may be called
 -- (`ready_settled`); `filling_with_rows` may be called by `asks_of` of StepLaws.
-use native.Mathlib.Omega.{arith}
 use Rattle.rules.specs.Layout.{row_size}
 use Rattle.rules.specs.Decode.{read_row, read_many}
 use Rattle.row_writer.proofs.WrittenLaws.{written_as}
-use Rattle.walk_writer.proofs.StepLaws.{asks_of}
-use Rattle.walk_writer.proofs.SettledLaws.{ready_settled, walked_settled}
+use Rattle.walk_writer.proofs.SettledLaws.{walked_settled}
 use Rattle.walk_writer.proofs.walk.Goals as goal
-
-pub filling_with_rows-filling-requires : goal.filling_with_rows-filling-requires
-filling_with_rows-filling-requires c =
-    let ready = c.requires.0 in
-    (ready.filling, asks_of ready (record { places = omega (arith, ready.width); serials = omega arith }) (omega arith))
-
-pub over-requires : goal.over-requires
-over-requires c =
-    let ready = ready_settled c.args.plan c.filling_with_rows-filling.ensures c.requires.0 in
-    (ready, c.requires.1, c.requires.2, c.requires.3)
 
 pub returns : goal.returns
 returns c =

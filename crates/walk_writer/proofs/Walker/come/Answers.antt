@@ -15,15 +15,6 @@ returns-then-is_taken c =
     came_taken p a.self.now.text.now fill a.o a.h a.row.now c.requires.1 _ c.is_taken.ensures c.if-is_taken.true
     _ c.taken.ensures
 
-pub come_due-requires : goal.come_due-requires
-come_due-requires c =
-    (c.requires.0, c.requires.1, c.requires.2, sym c.is_taken.ensures ∙ c.if-is_taken.false)
-
-pub moved_index-index-requires : goal.moved_index-index-requires
-moved_index-index-requires c =
-    let plan = c.requires.0.plan in
-    (plan.definitions, plan.attributes, c.requires.1.fair)
-
 pub returns : goal.returns
 returns c =
     let a = c.args in

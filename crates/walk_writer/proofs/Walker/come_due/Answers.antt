@@ -1,37 +1,11 @@
 -- `walk_writer::Walker::come_due` meets its contract: the filling, if it comes before the row, and then the row itself
 -- (`row_kept` of StepLaws) are what comes of a row that is not taken (`came_kept`), and `kept` gives what is open after
 -- it (`kept_due`); the row's depth is one at which a filling may be written (`asks_of`).
-use native.Mathlib.Omega.{arith}
 use mathlib.Core.Path.{refl, sym}
 use mathlib.Core.Bool.{false, not, ◌&&◌}
 use Rattle.walk_writer.specs.Going.{fill_by}
-use Rattle.walk_writer.proofs.StepLaws.{asks_of, row_kept, came_kept, kept_due}
+use Rattle.walk_writer.proofs.StepLaws.{row_kept, came_kept, kept_due}
 use Rattle.walk_writer.proofs.Walker.come_due.Goals as goal
-
-pub is_filled-filled-requires : goal.is_filled-filled-requires
-is_filled-filled-requires c = c.requires.1.fair
-
-pub put_owed-requires : goal.put_owed-requires
-put_owed-requires c =
-    (c.requires.0.filling, asks_of c.requires.0 c.requires.2 (omega (arith, c.requires.1.fair.depth)))
-
-pub moved_index-index-requires : goal.moved_index-index-requires
-moved_index-index-requires c =
-    let plan = c.requires.0.plan in
-    (plan.definitions, plan.attributes, c.requires.1.fair)
-
-pub put_row-requires : goal.put_row-requires
-put_row-requires c =
-    let ready = c.requires.0 in
-    (ready.width, c.moved_index-index.ensures.1, ready.text, c.requires.1.old, c.put_owed.ensures.room c.requires.2)
-
-pub is_below-requires : goal.is_below-requires
-is_below-requires c =
-    c.requires.1.fair
-
-pub kept-requires : goal.kept-requires
-kept-requires c =
-    c.requires.1.fair
 
 pub returns : goal.returns
 returns c =

@@ -1,11 +1,11 @@
 -- `walk_writer::Walker::pass` meets its contract: if all rows that may be written stay as they are, the block is what was
 -- passed (`passes_block` of WalkLaws), else the block and the row after it (`passes_row`); both are of an old store
 -- (`rows_within`, `rows_old`, `rows_at`), and their sizes are in range (`size_split`, `block_small` of BlockLaws).
-use Prim.Native.Nat.{ℕ, ◌-◌, ◌*◌, ◌≤◌}
+use Prim.Native.Nat.{◌-◌, ◌≤◌}
 use native.Mathlib.Omega.{arith}
-use mathlib.Core.Path.{ap, refl}
+use mathlib.Core.Path.{refl}
 use Rattle.rules.specs.Layout.{row_size}
-use Rattle.row_writer.proofs.BlockLaws.{size_split, block_small}
+use Rattle.row_writer.proofs.BlockLaws.{size_split}
 use Rattle.walk_writer.proofs.WalkLaws.{rows_within, rows_old, rows_at, passes_block, passes_row}
 use Rattle.walk_writer.proofs.Walker.pass.Goals as goal
 
@@ -39,12 +39,6 @@ returns-then-run-most c =
     passes_block c.plain_rows-run.ensures c.requires.1 c.requires.2 c.requires.4 (omega arith) c.put_block.ensures
     (omega (arith, c.requires.5, c.requires.6, c.minus.ensures)) (omega (arith, c.minus.ensures)) c.if-run-most.true
 
-pub overflow_mul-size : goal.overflow_mul-size
-overflow_mul-size c =
-    let run = c.plain_rows-run in
-    let few : run.result.count ≤ c.args.c.now.left = omega (arith, run.ensures.few, c.minus.ensures) in
-    record { fits = omega (arith, block_small c.requires.4 few, ap (λ (i : ℕ). i * run.result.count) c.row_size-size.ensures) }
-
 pub step-opened-requires : goal.step-opened-requires
 step-opened-requires c =
     let a = c.args in
@@ -52,10 +46,6 @@ step-opened-requires c =
     let row = rows_at a.self.now.form.now.width run.result.count a.count a.rows.now (omega (arith, run.ensures.few, c.if-run-most.false)) c.requires.1
     c.row_size-size.ensures refl c.window-row.ensures in
     (c.requires.0, row, run.ensures.near, c.put_block.ensures.room c.requires.4)
-
-pub overflow_add-result : goal.overflow_add-result
-overflow_add-result c =
-    record { fits = omega (arith, c.plain_rows-run.ensures.few, c.ranges) }
 
 pub returns : goal.returns
 returns c =

@@ -1,9 +1,8 @@
 -- `walk_writer::Walker::step` meets its contract: a row below one that is taken gives no row and leaves open what is open
 -- (`step_gone` of StepLaws); else the filling that it closes, if due, and then what `come` writes are what comes of it
 -- (`step_on`), with the head that was read (`seen`); the filling's depth is one at which it may be written (`asks_of`).
-use native.Mathlib.Omega.{arith}
 use Rattle.walk_writer.specs.Going.{fill_by}
-use Rattle.walk_writer.proofs.StepLaws.{asks_of, seen, step_gone, step_on}
+use Rattle.walk_writer.proofs.StepLaws.{seen, step_gone, step_on}
 use Rattle.walk_writer.proofs.Walker.step.Goals as goal
 
 pub returns-then-gone : goal.returns-then-gone
@@ -13,22 +12,6 @@ returns-then-gone c =
     let fill = fill_by a.self.now in
     step_gone p a.self.now.text.now fill a.o _ a.row.now (seen c.requires.1 c.read_head-h.ensures) _
     c.gone.ensures c.if-gone.true
-
-pub closes-requires : goal.closes-requires
-closes-requires c =
-    (seen c.requires.1 c.read_head-h.ensures).fair
-
-pub put_owed-requires : goal.put_owed-requires
-put_owed-requires c =
-    (c.requires.0.filling, asks_of c.requires.0 c.requires.3 (omega (arith, c.requires.2.below, c.minus-depth.ensures)))
-
-pub closed-q-requires : goal.closed-q-requires
-closed-q-requires c =
-    (seen c.requires.1 c.read_head-h.ensures).fair
-
-pub come-requires : goal.come-requires
-come-requires c =
-    (c.requires.0, seen c.requires.1 c.read_head-h.ensures, c.put_owed.ensures.room c.requires.3)
 
 pub returns : goal.returns
 returns c =

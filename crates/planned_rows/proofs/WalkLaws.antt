@@ -10,7 +10,7 @@ use lib.Seq.{length-take-le}
 use Rattle.rules.specs.Bytes.{Bytes}
 use Rattle.rules.specs.Preorder.{Deep}
 use Rattle.rules.specs.Layout.{row_size, FlatRow, FlatStore, flat}
-use Rattle.rules.specs.Decode.{number_at, read_row, read_many, definition_count, attribute_count, row_count}
+use Rattle.rules.specs.Decode.{number_at, read_row, read_many, row_count}
 use Rattle.rules.specs.WellFormed.{is_value}
 use Rattle.rules.specs.Passing.{passes}
 use Rattle.rules.proofs.Words.{and_split}
@@ -23,9 +23,8 @@ use Rattle.store_check.proofs.StringChecks.{Headed, laid_in, rows_whole, rows_sm
 use Rattle.store_check.proofs.BodiesRead.{rows_fit_lem, read_form_lem, read_attribute_lem, read_rows_lem}
 use Rattle.store_check.proofs.StoreFacts.{headed_of}
 use Rattle.lookup.specs.Bodies.{bodies_of}
-use Rattle.layout.specs.declared.Shape.{Shape}
-use Rattle.layout.specs.Bodies.{Width, width_of, Number, shape_of, ShapeOf, definition_body, particle_body, attribute_body, row_body, definitions_in, particles_in, attributes_in, tree_rows_in}
-use Rattle.layout.proofs.LayoutLaws.{width_small, by_shape}
+use Rattle.layout.specs.Bodies.{Width, width_of, Number, tree_rows_in}
+use Rattle.layout.proofs.LayoutLaws.{width_small}
 use Rattle.row_writer.specs.declared.Cursor.{Cursor}
 use Rattle.row_writer.specs.Written.{new_in, Written, Room}
 use Rattle.row_writer.proofs.WrittenLaws.{written_as}
@@ -46,7 +45,7 @@ use Rattle.store_laws.proofs.StoreLaws.{holds}
 use Rattle.planned_rows.proofs.PartLaws.{members_at_lem}
 use Rattle.store_laws.proofs.RowBounds.{Bounded, rows_bounded}
 use Rattle.codec.proofs.Records.{length_many}
-use Rattle.layout.specs.Fields.{next_at, version_at}
+use Rattle.layout.specs.Fields.{next_at}
 
 -- ---- rows that fit and are bounded
 walk_rows : (w count : ℕ) (s : Bytes) → Small s → row_size w * count ≤ length s → each_fits (row_fits w) (row_size w) count s ≡ true

@@ -2,7 +2,6 @@
 -- `row_bound::most_added` may be called (`walk_ready`, `walk_asked`, `walk_whole`, `rows_few`), and the rows that it
 -- bounds are those after the plan (`rows_added`).
 use Rattle.planned_rows.proofs.WalkLaws.{reads_of, walk_ready, walk_asked, walk_whole, rows_few, rows_added}
-use borrow.Author.Rules.{rules}
 use Rattle.planned_rows.proofs.most_added.Goals as goal
 
 pub most_added-requires : goal.most_added-requires

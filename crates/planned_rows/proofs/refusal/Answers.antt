@@ -5,7 +5,6 @@ use native.Mathlib.Omega.{arith}
 use Rattle.lookup.specs.Bodies.{bodies_of}
 use Rattle.planned_rows.specs.Planned.{rows_after}
 use Rattle.planned_rows.proofs.RefusalLaws.{refusal_spared, refusal_counted}
-use borrow.Author.Rules.{rules}
 use Rattle.planned_rows.proofs.refusal.Goals as goal
 
 pub returns-then-limit-eq0 : goal.returns-then-limit-eq0

@@ -2,7 +2,6 @@
 -- may be called (`walk_ready`, `walk_asked`, `walk_whole`, `walk_room`), and the rows that it writes are those after
 -- the plan (`walk_from`).
 use Rattle.planned_rows.proofs.WalkLaws.{reads_of, walk_ready, walk_asked, walk_whole, walk_room, walk_from_lem}
-use borrow.Author.Rules.{rules}
 use Rattle.planned_rows.proofs.walk_rows.Goals as goal
 
 pub walk-requires : goal.walk-requires

@@ -16,6 +16,7 @@ const UNMOVED: Shift = Shift {
     less: 0,
 };
 
+// A plan that does nothing.
 const NOTHING: Plan = Plan {
     above: Which::Nothing,
     takes: Which::Nothing,
@@ -58,10 +59,7 @@ pub fn taking_plan(above: Which, takes: Which) -> Plan
 pub fn setting_plan(set: u32) -> Plan
     ensures { result ≡ setting_plan set }
 {
-    Plan {
-        set,
-        ..NOTHING
-    }
+    Plan { set, ..NOTHING }
 }
 
 // ---- attributes

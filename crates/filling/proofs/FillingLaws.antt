@@ -29,16 +29,17 @@ use Rattle.model.proofs.MembersLaws.{members_few, members_deeper, members_stop, 
 use Rattle.form_index.specs.Indices.{IndexForm}
 use Rattle.layout.specs.Bodies.{record_at}
 use Rattle.layout.proofs.LayoutLaws.{attribute_value_short}
-use Rattle.form_index.specs.Reading.{definition_in, attribute_in, particles_before, model_part, attributes_of, index_form}
+use Rattle.form_index.specs.Reading.{definition_in, attribute_in, particles_before, model_part}
 use Rattle.row_writer.specs.declared.Cursor.{Cursor}
 use Rattle.row_writer.specs.Written.{Written, Room, new_row}
 use Rattle.row_writer.proofs.WrittenLaws.{written_none, written_then, written_as, written_room, written_long}
 use Rattle.filling.proofs.NeededLaws.{unless_none}
 use Rattle.filling.specs.declared.Filling.{Filling}
 use Rattle.filling.specs.declared.Filling.TheVariants.{Nothing, Definition, Attribute, Particles}
-use Rattle.filling.specs.Fillings.{new_element, new_attribute_row, required_rows, fillings_of, content_rows, fill_index, group_filled, filling_rows}
+use Rattle.filling.specs.Fillings.{new_element, new_attribute_row, required_rows, fillings_of, content_rows, fill_index, group_filled}
 use Rattle.filling.specs.Parts.{left_out, passed, settled, sort_nothing, member_nothing, what_filling, member_filling, value_in, required_at, required_in}
-use Rattle.filling.specs.Parts.{index_form_in, definition_rows, member_rows, below_rows, members_read_at, Indexed}
+use Rattle.filling.specs.Parts.{index_form_in, values_in, definition_rows, member_rows, below_rows, members_read_at, fill_with, Indexed}
+use Rattle.layout.specs.declared.Form.{Form}
 use Rattle.layout.specs.Fields.{particle_depth_at, particle_index_at, particle_quantifier_at, particle_sort_at}
 use Rattle.rules.specs.Layout.{particle_size}
 
@@ -97,48 +98,43 @@ module _ (F : IndexForm) (value : ℕ → Bytes) (d i : ℕ) where
       by true e = ap (λ (z : List (Deep FlatRow)). new_attribute_row d j (value j) ∷ z) e
       by false e = e
 
-module _ (version w : ℕ) (attrs : Bytes) (d i : ℕ) where
+module _ (F : Form) (d i : ℕ) where
   abbrev row_if : Bool → Deep FlatRow → List (Deep FlatRow)
   row_if true x = x ∷ []
   row_if false x = []
 
-  required_at_lem : (j : ℕ) {b : Bool} → b ≡ (eqb (attribute_in w attrs j).owner i && must_be_present version (sort_of (attribute_in w attrs j).sort))
-      → required_at version w attrs d i j ≡ row_if b (new_attribute_row d j (value_in w attrs j))
+  required_at_lem : (j : ℕ) {b : Bool} → b ≡ (eqb (attribute_in F.width F.attributes.now j).owner i && must_be_present F.version (sort_of (attribute_in F.width F.attributes.now j).sort))
+      → required_at F d i j ≡ row_if b (new_attribute_row d j (values_in F j))
   unfolding required_at required_rows
   required_at_lem j {b} e =
-      by (eqb (attribute_in w attrs j).owner i && must_be_present version (sort_of (attribute_in w attrs j).sort))
-      ∙ ap (λ (z : Bool). row_if z (new_attribute_row d j (value_in w attrs j))) (sym e)
+      by (eqb (attribute_in F.width F.attributes.now j).owner i && must_be_present F.version (sort_of (attribute_in F.width F.attributes.now j).sort))
+      ∙ ap (λ (z : Bool). row_if z (new_attribute_row d j (values_in F j))) (sym e)
     where
-      by : (c : Bool) → elim c as (λ z. List (Deep FlatRow)) [ true ↦ new_attribute_row d j (value_in w attrs j) ∷ [] | false ↦ [] ] ≡ row_if c (new_attribute_row d j (value_in w attrs j))
+      by : (c : Bool) → elim c as (λ z. List (Deep FlatRow)) [ true ↦ new_attribute_row d j (values_in F j) ∷ [] | false ↦ [] ] ≡ row_if c (new_attribute_row d j (values_in F j))
       by true = refl
       by false = refl
 
   pub spare_written : (j : ℕ) {b : Bool} {c : Cursor} {out : Bytes}
-      → b ≡ (eqb (attribute_in w attrs j).owner i && must_be_present version (sort_of (attribute_in w attrs j).sort)) → b ≡ false
-      → Written w (required_at version w attrs d i j) c out c out
-  spare_written j e f = written_as (required_at_lem j e ∙ ap (λ (z : Bool). row_if z (new_attribute_row d j (value_in w attrs j))) f) written_none
+      → b ≡ (eqb (attribute_in F.width F.attributes.now j).owner i && must_be_present F.version (sort_of (attribute_in F.width F.attributes.now j).sort)) → b ≡ false
+      → Written F.width (required_at F d i j) c out c out
+  spare_written j e f = written_as (required_at_lem j e ∙ ap (λ (z : Bool). row_if z (new_attribute_row d j (values_in F j))) f) written_none
 
   pub needed_written : (j : ℕ) {b : Bool} {v : Bytes} {c r : Cursor} {out out' : Bytes}
-      → b ≡ (eqb (attribute_in w attrs j).owner i && must_be_present version (sort_of (attribute_in w attrs j).sort)) → b ≡ true → v ≡ value_in w attrs j
-      → Written w (new_row 2 d j v ∷ []) c out r out'
-      → Written w (required_at version w attrs d i j) c out r out'
-  needed_written j e t m p = written_as (required_at_lem j e ∙ ap (λ (z : Bool). row_if z (new_attribute_row d j (value_in w attrs j))) t ∙ ap (λ (z : Bytes). new_attribute_row d j z ∷ []) (sym m)) p
+      → b ≡ (eqb (attribute_in F.width F.attributes.now j).owner i && must_be_present F.version (sort_of (attribute_in F.width F.attributes.now j).sort)) → b ≡ true → v ≡ values_in F j
+      → Written F.width (new_row 2 d j v ∷ []) c out r out'
+      → Written F.width (required_at F d i j) c out r out'
+  needed_written j e t m p = written_as (required_at_lem j e ∙ ap (λ (z : Bool). row_if z (new_attribute_row d j (values_in F j))) t ∙ ap (λ (z : Bytes). new_attribute_row d j z ∷ []) (sym m)) p
 
-  pub required_none : {c : Cursor} {out : Bytes} → Written w (required_in version w attrs d i 0) c out c out
+  pub required_none : {c : Cursor} {out : Bytes} → Written F.width (required_in F d i 0) c out c out
   unfolding required_in required_rows
   required_none = written_none
 
-  pub required_on : (j : ℕ) {c r r' : Cursor} {out out' out'' : Bytes} → Written w (required_in version w attrs d i j) c out r out'
-      → Written w (required_at version w attrs d i j) r out' r' out'' → Written w (required_in version w attrs d i (j + 1)) c out r' out''
+  pub required_on : (j : ℕ) {c r r' : Cursor} {out out' out'' : Bytes} → Written F.width (required_in F d i j) c out r out'
+      → Written F.width (required_at F d i j) r out' r' out'' → Written F.width (required_in F d i (j + 1)) c out r' out''
   unfolding required_in required_at
   required_on j p q =
       let e : 0 + j ≡ j = omega arith in
-      rw (add-one j) (written_as (required_last (attributes_of version w attrs 0) (value_in w attrs) d i 0 j) (written_then p (rw e q)))
-
--- the attributes below j are written
-pub record Putting (version w : ℕ) (attrs : Bytes) (d i a : ℕ) (c : Cursor) (out : Bytes) (r : Cursor) (out' : Bytes) (j : ℕ) : Type 0 where
-  pub written : Written w (required_in version w attrs d i j) c out r out'
-  pub low : j ≤ a
+      rw (add-one j) (written_as (required_last (index_form_in F) (values_in F) d i 0 j) (written_then p (rw e q)))
 
 -- ---- the members of depth d that s begins with
 module _ (d : ℕ) (k : GroupKind) (s : Bytes) where
@@ -376,176 +372,129 @@ module _ (d : ℕ) (s : Bytes) (p : Particle) (e : p ≡ particle_of (read_parti
           member_group h = inside ∙ eu ∙ rw h
 
 -- ---- definitions
--- the attributes of a form do not depend on its definitions
-form_required : (version w n a b : ℕ) (defs parts attrs : Bytes) (value : ℕ → Bytes) (d i j k : ℕ)
-    → required_rows (index_form version w n defs parts attrs a) value d i j k ≡ required_rows (attributes_of version w attrs b) value d i j k
-unfolding required_rows
-form_required version w n a b defs parts attrs value d i j zero = refl
-form_required version w n a b defs parts attrs value d i j (suc k) =
-    let e : required_rows (index_form version w n defs parts attrs a) value d i (suc j) k ≡ required_rows (attributes_of version w attrs b) value d i (suc j) k =
-    form_required version w n a b defs parts attrs value d i (suc j) k in
-    λ z. elim (eqb (attribute_in w attrs j).owner i && must_be_present version (sort_of (attribute_in w attrs j).sort)) as (λ x. List (Deep FlatRow)) [
-      | true ↦ new_attribute_row d j (value j) ∷ e z
-      | false ↦ e z
-    ]
-
--- nor fillings on the number of definitions
-form_fillings : (version w n m a : ℕ) (defs parts attrs : Bytes) (value : ℕ → Bytes) (f g : ℕ → List (Deep FlatRow)) → ((j : ℕ) → f j ≡ g j) → (is : List ℕ)
-    → fillings_of (index_form version w n defs parts attrs a) value f is ≡ fillings_of (index_form version w m defs parts attrs a) value g is
-unfolding fillings_of
-form_fillings version w n m a defs parts attrs value f g e [] = refl
-form_fillings version w n m a defs parts attrs value f g e (i ∷ is) = ap₂ (λ (u v : List (Deep FlatRow)). u ++ v) (e i) (form_fillings version w n m a defs parts attrs value f g e is)
-
-form_content : (version w n m a : ℕ) (defs parts attrs : Bytes) (value : ℕ → Bytes) (f g : ℕ → List (Deep FlatRow)) → ((j : ℕ) → f j ≡ g j) → (txt : Bytes) (d : ℕ) (ms : Members ℕ) (k : ℕ)
-    → content_rows (index_form version w n defs parts attrs a) value f txt d ms k ≡ content_rows (index_form version w m defs parts attrs a) value g txt d ms k
-unfolding content_rows
-form_content version w n m a defs parts attrs value f g e txt d ms zero = refl
-form_content version w n m a defs parts attrs value f g e txt d ms (suc zero) = refl
-form_content version w n m a defs parts attrs value f g e txt d ms (suc (suc k)) = form_fillings version w n m a defs parts attrs value f g e (filling Sequence ms)
-
-module _ (version w : ℕ) (defs parts attrs : Bytes) (a : ℕ) (txt : Bytes) where
-  -- how many definitions there are is not looked at
-  sized : (n h d i : ℕ) → fill_index (index_form version w n defs parts attrs a) (value_in w attrs) h txt d i ≡ fill_index (index_form version w 0 defs parts attrs a) (value_in w attrs) h txt d i
-  unfolding fill_index
-  sized n zero d i = refl
-  sized n (suc h) d i =
-      ap₂ (λ (u v : List (Deep FlatRow)). new_element d i ∷ (u ++ v))
-      (form_required version w n a 0 defs parts attrs (value_in w attrs) (suc d) i 0 a
-      ∙ sym (form_required version w 0 a 0 defs parts attrs (value_in w attrs) (suc d) i 0 a))
-      (form_content version w n 0 a defs parts attrs (value_in w attrs)
-      (λ j. fill_index (index_form version w n defs parts attrs a) (value_in w attrs) h txt (suc d) j)
-      (λ j. fill_index (index_form version w 0 defs parts attrs a) (value_in w attrs) h txt (suc d) j) (λ j. sized n h (suc d) j) txt (suc d)
-      (all_members (model_part defs parts i)) (definition_in defs i).kind)
-
-  pub definition_sized : (n d i : ℕ) {c r : Cursor} {out out' : Bytes} → Written w (definition_rows version w defs parts attrs a txt n d i) c out r out'
-      → Written w (fill_index (index_form version w n defs parts attrs a) (value_in w attrs) n txt d i) c out r out'
-  unfolding definition_rows
-  definition_sized n d i p = written_as (sized n n d i) p
-
+module _ (F : Form) (txt : Bytes) where
   module _ (h d : ℕ) where
     definition_more : (i : ℕ)
-        → definition_rows version w defs parts attrs a txt (suc h) d i
-        ≡ new_element d i ∷ (required_in version w attrs (suc d) i a ++ below_rows version w defs parts attrs a txt h (suc d) i)
+        → definition_rows F txt (suc h) d i
+        ≡ new_element d i ∷ (required_in F (suc d) i F.attribute_count ++ below_rows F txt h (suc d) i)
     unfolding definition_rows below_rows required_in fill_index
-    definition_more i =
-        ap (λ (u : List (Deep FlatRow)). new_element d i ∷ (u ++ below_rows version w defs parts attrs a txt h (suc d) i))
-        (form_required version w 0 a 0 defs parts attrs (value_in w attrs) (suc d) i 0 a)
+    definition_more i = refl
 
   module _ (h d : ℕ) where
     -- ---- a definition
-    pub definition_low : (i : ℕ) {c : Cursor} {out : Bytes} → h ≡ 0 → Written w (definition_rows version w defs parts attrs a txt h d i) c out c out
+    pub definition_low : (i : ℕ) {c : Cursor} {out : Bytes} → h ≡ 0 → Written F.width (definition_rows F txt h d i) c out c out
     unfolding definition_rows fill_index
     definition_low i e = rw e written_none
 
-    pub definition_written : (i : ℕ) {c e r r' : Cursor} {out out₁ out₂ out' : Bytes} → (h ≡ 0 → ⊥) → Written w (new_row 1 d i [] ∷ []) c out e out₁
-        → Written w (required_in version w attrs (d + 1) i a) e out₁ r out₂
-        → Written w (below_rows version w defs parts attrs a txt (h - 1) (d + 1) i) r out₂ r' out' → Written w (definition_rows version w defs parts attrs a txt h d i) c out r' out'
+    pub definition_written : (i : ℕ) {c e r r' : Cursor} {out out₁ out₂ out' : Bytes} → (h ≡ 0 → ⊥) → Written F.width (new_row 1 d i [] ∷ []) c out e out₁
+        → Written F.width (required_in F (d + 1) i F.attribute_count) e out₁ r out₂
+        → Written F.width (below_rows F txt (h - 1) (d + 1) i) r out₂ r' out' → Written F.width (definition_rows F txt h d i) c out r' out'
     definition_written i {c} {e} {r} {r'} {out} {out₁} {out₂} {out'} n p q s = written_as (by h n) (written_then p (written_then q s))
       where
         by : (k : ℕ) → (k ≡ 0 → ⊥)
-            → definition_rows version w defs parts attrs a txt k d i
-            ≡ new_element d i ∷ (required_in version w attrs (d + 1) i a ++ below_rows version w defs parts attrs a txt (k - 1) (d + 1) i)
+            → definition_rows F txt k d i
+            ≡ new_element d i ∷ (required_in F (d + 1) i F.attribute_count ++ below_rows F txt (k - 1) (d + 1) i)
         by zero x = absurd (x refl)
         by (suc k) x =
             let m : suc k - 1 ≡ k = omega arith in
             rw (m, add-one d) (definition_more k d i)
 
     -- ---- what stands below an element of definition i, whose kind is k
-    module _ (i k : ℕ) (e : k ≡ (definition_in defs i).kind) where
-      kind_told : below_rows version w defs parts attrs a txt h d i
-          ≡ content_rows (index_form_in version w defs parts attrs a) (value_in w attrs) (λ j. definition_rows version w defs parts attrs a txt h d j) txt d
-          (all_members (model_part defs parts i)) k
+    module _ (i k : ℕ) (e : k ≡ (definition_in F.definitions.now i).kind) where
+      kind_told : below_rows F txt h d i
+          ≡ content_rows (index_form_in F) (values_in F) (λ j. definition_rows F txt h d j) txt d
+          (all_members (model_part F.definitions.now F.particles.now i)) k
       unfolding below_rows
       kind_told = ap
-          (λ (z : ℕ). content_rows (index_form_in version w defs parts attrs a) (value_in w attrs) (λ j. definition_rows version w defs parts attrs a txt h d j) txt
-          d (all_members (model_part defs parts i)) z)
+          (λ (z : ℕ). content_rows (index_form_in F) (values_in F) (λ j. definition_rows F txt h d j) txt
+          d (all_members (model_part F.definitions.now F.particles.now i)) z)
           (sym e)
 
-      pub below_none : {c : Cursor} {out : Bytes} → k ≡ 0 → Written w (below_rows version w defs parts attrs a txt h d i) c out c out
+      pub below_none : {c : Cursor} {out : Bytes} → k ≡ 0 → Written F.width (below_rows F txt h d i) c out c out
       unfolding content_rows
       below_none z = written_as (kind_told ∙ rw z) written_none
 
-      pub below_text : {c r : Cursor} {out out' : Bytes} → k ≡ 1 → Written w (new_row 3 d 0 txt ∷ []) c out r out' → Written w (below_rows version w defs parts attrs a txt h d i) c out r out'
+      pub below_text : {c r : Cursor} {out out' : Bytes} → k ≡ 1 → Written F.width (new_row 3 d 0 txt ∷ []) c out r out' → Written F.width (below_rows F txt h d i) c out r out'
       unfolding content_rows
       below_text z p = written_as (kind_told ∙ rw z) p
 
-      pub below_group : (s : Bytes) {c r : Cursor} {out out' : Bytes} → (k ≡ 0 → ⊥) → (k ≡ 1 → ⊥) → s ≡ model_part defs parts i
-          → Written w (member_rows version w defs parts attrs a txt h d (filling Sequence (members_from 0 s))) c out r out'
-          → Written w (below_rows version w defs parts attrs a txt h d i) c out r out'
+      pub below_group : (s : Bytes) {c r : Cursor} {out out' : Bytes} → (k ≡ 0 → ⊥) → (k ≡ 1 → ⊥) → s ≡ model_part F.definitions.now F.particles.now i
+          → Written F.width (member_rows F txt h d (filling Sequence (members_from 0 s))) c out r out'
+          → Written F.width (below_rows F txt h d i) c out r out'
       unfolding content_rows member_rows
-      below_group s n m q p = written_as (kind_told ∙ by k n m ∙ ap (λ (z : Bytes). member_rows version w defs parts attrs a txt h d (filling Sequence (members_from 0 z))) (sym q)) p
+      below_group s n m q p = written_as (kind_told ∙ by k n m ∙ ap (λ (z : Bytes). member_rows F txt h d (filling Sequence (members_from 0 z))) (sym q)) p
         where
           by : (k : ℕ) → (k ≡ 0 → ⊥) → (k ≡ 1 → ⊥)
-              → content_rows (index_form_in version w defs parts attrs a) (value_in w attrs) (λ j. definition_rows version w defs parts attrs a txt h d j) txt d (all_members (model_part defs parts i)) k
-              ≡ member_rows version w defs parts attrs a txt h d (filling Sequence (members_from 0 (model_part defs parts i)))
+              → content_rows (index_form_in F) (values_in F) (λ j. definition_rows F txt h d j) txt d (all_members (model_part F.definitions.now F.particles.now i)) k
+              ≡ member_rows F txt h d (filling Sequence (members_from 0 (model_part F.definitions.now F.particles.now i)))
           by zero n m = absurd (n refl)
           by (suc zero) n m = absurd (m refl)
           by (suc (suc k)) n m = refl
 
-      pub below_nothing : (s : Bytes) {c : Cursor} {out : Bytes} → (k ≡ 0 → ⊥) → (k ≡ 1 → ⊥) → s ≡ model_part defs parts i → filling Sequence (members_from 0 s) ≡ []
-          → Written w (below_rows version w defs parts attrs a txt h d i) c out c out
+      pub below_nothing : (s : Bytes) {c : Cursor} {out : Bytes} → (k ≡ 0 → ⊥) → (k ≡ 1 → ⊥) → s ≡ model_part F.definitions.now F.particles.now i → filling Sequence (members_from 0 s) ≡ []
+          → Written F.width (below_rows F txt h d i) c out c out
       unfolding member_rows fillings_of
       below_nothing s n m q z =
-          below_group s n m q (written_as (ap (λ (f : List ℕ). member_rows version w defs parts attrs a txt h d f) z) written_none)
+          below_group s n m q (written_as (ap (λ (f : List ℕ). member_rows F txt h d f) z) written_none)
 
     -- ---- members; f: the definitions that they fill with
-    members_more : (u v : List ℕ) → member_rows version w defs parts attrs a txt h d (u ++ v) ≡ member_rows version w defs parts attrs a txt h d u ++ member_rows version w defs parts attrs a txt h d v
+    members_more : (u v : List ℕ) → member_rows F txt h d (u ++ v) ≡ member_rows F txt h d u ++ member_rows F txt h d v
     unfolding member_rows fillings_of
     members_more [] v = refl
     members_more (i ∷ u) v =
-        ap (λ (z : List (Deep FlatRow)). definition_rows version w defs parts attrs a txt h d i ++ z) (members_more u v)
-        ∙ sym (append_assoc (definition_rows version w defs parts attrs a txt h d i) (member_rows version w defs parts attrs a txt h d u) (member_rows version w defs parts attrs a txt h d v))
+        ap (λ (z : List (Deep FlatRow)). definition_rows F txt h d i ++ z) (members_more u v)
+        ∙ sym (append_assoc (definition_rows F txt h d i) (member_rows F txt h d u) (member_rows F txt h d v))
 
     module _ (f : List ℕ) where
-      pub none_written : {c : Cursor} {out : Bytes} → f ≡ [] → Written w (member_rows version w defs parts attrs a txt h d f) c out c out
+      pub none_written : {c : Cursor} {out : Bytes} → f ≡ [] → Written F.width (member_rows F txt h d f) c out c out
       unfolding member_rows fillings_of
       none_written e = rw e written_none
 
-      pub one_written : (i : ℕ) {c r : Cursor} {out out' : Bytes} → f ≡ i ∷ [] → Written w (definition_rows version w defs parts attrs a txt h d i) c out r out'
-          → Written w (member_rows version w defs parts attrs a txt h d f) c out r out'
+      pub one_written : (i : ℕ) {c r : Cursor} {out out' : Bytes} → f ≡ i ∷ [] → Written F.width (definition_rows F txt h d i) c out r out'
+          → Written F.width (member_rows F txt h d f) c out r out'
       unfolding member_rows fillings_of
-      one_written i e p = written_as (ap (λ (z : List ℕ). member_rows version w defs parts attrs a txt h d z) e ∙ append-nil (definition_rows version w defs parts attrs a txt h d i)) p
+      one_written i e p = written_as (ap (λ (z : List ℕ). member_rows F txt h d z) e ∙ append-nil (definition_rows F txt h d i)) p
 
-      pub same_written : (g : List ℕ) {c r : Cursor} {out out' : Bytes} → f ≡ g → Written w (member_rows version w defs parts attrs a txt h d g) c out r out'
-          → Written w (member_rows version w defs parts attrs a txt h d f) c out r out'
-      same_written g e p = written_as (ap (λ (z : List ℕ). member_rows version w defs parts attrs a txt h d z) e) p
+      pub same_written : (g : List ℕ) {c r : Cursor} {out out' : Bytes} → f ≡ g → Written F.width (member_rows F txt h d g) c out r out'
+          → Written F.width (member_rows F txt h d f) c out r out'
+      same_written g e p = written_as (ap (λ (z : List ℕ). member_rows F txt h d z) e) p
 
       -- of a group's first member, u, and of the others, v
       module _ (k : GroupKind) (u v : List ℕ) (e : f ≡ beside k u v) where
-        pub list_written : {c r r' : Cursor} {out out' out'' : Bytes} → k ≡ Sequence → Written w (member_rows version w defs parts attrs a txt h d u) c out r out'
-            → Written w (member_rows version w defs parts attrs a txt h d v) r out' r' out''
-            → Written w (member_rows version w defs parts attrs a txt h d f) c out r' out''
-        list_written q p s = written_as (ap (λ (z : List ℕ). member_rows version w defs parts attrs a txt h d z) (e ∙ ap (λ (z : GroupKind). beside z u v) q) ∙ members_more u v) (written_then p s)
+        pub list_written : {c r r' : Cursor} {out out' out'' : Bytes} → k ≡ Sequence → Written F.width (member_rows F txt h d u) c out r out'
+            → Written F.width (member_rows F txt h d v) r out' r' out''
+            → Written F.width (member_rows F txt h d f) c out r' out''
+        list_written q p s = written_as (ap (λ (z : List ℕ). member_rows F txt h d z) (e ∙ ap (λ (z : GroupKind). beside z u v) q) ∙ members_more u v) (written_then p s)
 
-        pub first_written : {c r : Cursor} {out out' : Bytes} → k ≡ Choice → Written w (member_rows version w defs parts attrs a txt h d u) c out r out'
-            → Written w (member_rows version w defs parts attrs a txt h d f) c out r out'
+        pub first_written : {c r : Cursor} {out out' : Bytes} → k ≡ Choice → Written F.width (member_rows F txt h d u) c out r out'
+            → Written F.width (member_rows F txt h d f) c out r out'
         first_written q p = same_written u (e ∙ ap (λ (z : GroupKind). beside z u v) q) p
 
 -- ---- the members of a group, one after the other
 -- the members of depth e from t on are still to be written; once they are, all from s on are
-pub record Rest (version w : ℕ) (defs parts attrs : Bytes) (a : ℕ) (txt : Bytes) (h d : ℕ) (k : GroupKind) (e : ℕ) (s : Bytes) (c : Cursor) (out t : Bytes) (r : Cursor) (out' : Bytes) : Type 0 where
-  pub rest : {r' : Cursor} {out'' : Bytes} → Written w (member_rows version w defs parts attrs a txt h d (filling k (members_from e t))) r out' r' out''
-      → Written w (member_rows version w defs parts attrs a txt h d (filling k (members_from e s))) c out r' out''
-  pub room : Room w r
+pub record Rest (F : Form) (txt : Bytes) (h d : ℕ) (k : GroupKind) (e : ℕ) (s : Bytes) (c : Cursor) (out t : Bytes) (r : Cursor) (out' : Bytes) : Type 0 where
+  pub rest : {r' : Cursor} {out'' : Bytes} → Written F.width (member_rows F txt h d (filling k (members_from e t))) r out' r' out''
+      → Written F.width (member_rows F txt h d (filling k (members_from e s))) c out r' out''
+  pub room : Room F.width r
   pub short : length t ≤ length s
   pub long : length out' ≡ length out
 
-module _ {version w : ℕ} {defs parts attrs : Bytes} {a : ℕ} {txt : Bytes} {h d : ℕ} {k : GroupKind} {e : ℕ} {s : Bytes} {c : Cursor} {out : Bytes} where
-  pub rest_starts : Room w c → Rest version w defs parts attrs a txt h d k e s c out s c out
+module _ {F : Form} {txt : Bytes} {h d : ℕ} {k : GroupKind} {e : ℕ} {s : Bytes} {c : Cursor} {out : Bytes} where
+  pub rest_starts : Room F.width c → Rest F txt h d k e s c out s c out
   rest_starts m = record { rest = λ p. p; room = m; short = omega arith; long = refl }
 
   -- after the particle that t begins with, whose depth is own
-  module _ {t : Bytes} {r : Cursor} {out' : Bytes} (i : Rest version w defs parts attrs a txt h d k e s c out t r out') (l : particle_size ≤ length t) (own : ℕ)
+  module _ {t : Bytes} {r : Cursor} {out' : Bytes} (i : Rest F txt h d k e s c out t r out') (l : particle_size ≤ length t) (own : ℕ)
       (g : own ≡ get_or t particle_depth_at 0) where
     next_short : length (take (length t - particle_size) (drop particle_size t)) ≤ length s
     next_short = omega (arith, i.short, length-take (length t - particle_size) (drop particle_size t), length-drop particle_size t)
 
     -- it is deeper, so it belongs to another member, or it is a member of a LIST that may be left out
     module _ (b : Bool) (o : b ≡ passed e k own (quantifier_of (get_or t particle_quantifier_at 0))) where
-      pub rest_past : e ≤ own → b ≡ true → Rest version w defs parts attrs a txt h d k e s c out (take (length t - particle_size) (drop particle_size t)) r out'
+      pub rest_past : e ≤ own → b ≡ true → Rest F txt h d k e s c out (take (length t - particle_size) (drop particle_size t)) r out'
       rest_past m y =
           record {
-            rest = λ p. i.rest (same_written version w defs parts attrs a txt h d (filling k (members_from e t)) _ (group_past e k t own l g m (sym o ∙ y)) p);
+            rest = λ p. i.rest (same_written F txt h d (filling k (members_from e t)) _ (group_past e k t own l g m (sym o ∙ y)) p);
             room = i.room;
             short = next_short;
             long = i.long;
@@ -554,13 +503,13 @@ module _ {version w : ℕ} {defs parts attrs : Bytes} {a : ℕ} {txt : Bytes} {h
       pub rest_here : b ≡ false → own ≤ e
       rest_here z = not_passed e k own (quantifier_of (get_or t particle_quantifier_at 0)) (sym o ∙ z)
 
-    module _ (m : own ≤ e) (n : e ≤ own) {r' : Cursor} {out'' : Bytes} (p : Written w (member_rows version w defs parts attrs a txt h d (member_filling e t)) r out' r' out'') where
+    module _ (m : own ≤ e) (n : e ≤ own) {r' : Cursor} {out'' : Bytes} (p : Written F.width (member_rows F txt h d (member_filling e t)) r out' r' out'') where
       -- it is a member of a LIST, and was written
-      pub rest_on : k ≡ Sequence → Rest version w defs parts attrs a txt h d k e s c out (take (length t - particle_size) (drop particle_size t)) r' out''
+      pub rest_on : k ≡ Sequence → Rest F txt h d k e s c out (take (length t - particle_size) (drop particle_size t)) r' out''
       rest_on q =
           record {
             rest = λ x. i.rest
-                (list_written version w defs parts attrs a txt h d (filling k (members_from e t)) k (member_filling e t)
+                (list_written F txt h d (filling k (members_from e t)) k (member_filling e t)
                 (filling k (members_from e (take (length t - particle_size) (drop particle_size t)))) (group_here_lem e k t own l g m n) q p x);
             room = written_room p i.room;
             short = next_short;
@@ -568,20 +517,20 @@ module _ {version w : ℕ} {defs parts attrs : Bytes} {a : ℕ} {txt : Bytes} {h
           }
 
       -- it is the first member of a CHOICE
-      pub rest_first : k ≡ Choice → Written w (member_rows version w defs parts attrs a txt h d (filling k (members_from e s))) c out r' out''
+      pub rest_first : k ≡ Choice → Written F.width (member_rows F txt h d (filling k (members_from e s))) c out r' out''
       rest_first q =
           i.rest
-          (first_written version w defs parts attrs a txt h d (filling k (members_from e t)) k (member_filling e t)
+          (first_written F txt h d (filling k (members_from e t)) k (member_filling e t)
           (filling k (members_from e (take (length t - particle_size) (drop particle_size t)))) (group_here_lem e k t own l g m n) q p)
 
     -- it stands outside the group
-    pub rest_over : own < e → Written w (member_rows version w defs parts attrs a txt h d (filling k (members_from e s))) c out r out'
-    rest_over m = i.rest (none_written version w defs parts attrs a txt h d (filling k (members_from e t)) (group_stop e k t own l g m))
+    pub rest_over : own < e → Written F.width (member_rows F txt h d (filling k (members_from e s))) c out r out'
+    rest_over m = i.rest (none_written F txt h d (filling k (members_from e t)) (group_stop e k t own l g m))
 
   -- there is no particle more
-  pub rest_ends : {t : Bytes} {r : Cursor} {out' : Bytes} → Rest version w defs parts attrs a txt h d k e s c out t r out' → length t < particle_size
-      → Written w (member_rows version w defs parts attrs a txt h d (filling k (members_from e s))) c out r out'
-  rest_ends {t} i l = i.rest (none_written version w defs parts attrs a txt h d (filling k (members_from e t)) (group_few e k t l))
+  pub rest_ends : {t : Bytes} {r : Cursor} {out' : Bytes} → Rest F txt h d k e s c out t r out' → length t < particle_size
+      → Written F.width (member_rows F txt h d (filling k (members_from e s))) c out r out'
+  rest_ends {t} i l = i.rest (none_written F txt h d (filling k (members_from e t)) (group_few e k t l))
 
 -- ---- an index in a particle is a byte
 abbrev element_in : What → ℕ
@@ -624,31 +573,23 @@ part_short defs parts i s e =
     omega (arith, ap length e, length-take n (drop m parts), length-drop m parts)
 
 -- ---- what a change fills with
-module _ (version w n : ℕ) (defs parts attrs : Bytes) (a : ℕ) (what : Filling) (txt : Bytes) (d : ℕ) where
-  abbrev rows_for : Filling → List (Deep FlatRow)
-  rows_for x = filling_rows (index_form version w n defs parts attrs a) (value_in w attrs) (λ k e. members_read_at parts k e) x txt d
+module _ (F : Form) (what : Filling) (txt : Bytes) (d : ℕ) where
+  pub nothing_filled : {c : Cursor} {out : Bytes} → what ≡ Nothing → Written F.width (fill_with F what txt d) c out c out
+  nothing_filled e = written_as (ap (λ (x : Filling). fill_with F x txt d) e) written_none
 
-  pub nothing_filled : {c : Cursor} {out : Bytes} → what ≡ Nothing → Written w (rows_for what) c out c out
-  nothing_filled e = written_as (ap (λ (x : Filling). rows_for x) e) written_none
+  pub definition_filled : (i : ℕ) {c r : Cursor} {out out' : Bytes} → what ≡ Definition i
+      → Written F.width (definition_rows F txt F.definition_count d i) c out r out' → Written F.width (fill_with F what txt d) c out r out'
+  unfolding definition_rows
+  definition_filled i e p = written_as (ap (λ (x : Filling). fill_with F x txt d) e) p
 
-  pub definition_filled_lem : (i : ℕ) {c r : Cursor} {out out' : Bytes} → what ≡ Definition i
-      → Written w (definition_rows version w defs parts attrs a txt n d i) c out r out' → Written w (rows_for what) c out r out'
-  definition_filled_lem i e p = written_as (ap (λ (x : Filling). rows_for x) e) (definition_sized version w defs parts attrs a txt n d i p)
-
-  pub attribute_filled : (j : ℕ) {c r : Cursor} {out out' : Bytes} → what ≡ Attribute j → Written w (new_row 2 d j txt ∷ []) c out r out' → Written w (rows_for what) c out r out'
-  attribute_filled j e p = written_as (ap (λ (x : Filling). rows_for x) e) p
+  pub attribute_filled : (j : ℕ) {c r : Cursor} {out out' : Bytes} → what ≡ Attribute j → Written F.width (new_row 2 d j txt ∷ []) c out r out' → Written F.width (fill_with F what txt d) c out r out'
+  attribute_filled j e p = written_as (ap (λ (x : Filling). fill_with F x txt d) e) p
 
   pub particles_filled : (g : GroupKind) (k e : ℕ) {c r : Cursor} {out out' : Bytes} → what ≡ Particles g k e
-      → Written w (member_rows version w defs parts attrs a txt n d (group_filled g (members_read_at parts k e))) c out r out'
-      → Written w (rows_for what) c out r out'
+      → Written F.width (member_rows F txt F.definition_count d (group_filled g (members_read_at F.particles.now k e))) c out r out'
+      → Written F.width (fill_with F what txt d) c out r out'
   unfolding member_rows definition_rows
-  particles_filled g k e q p =
-      written_as
-      (ap (λ (x : Filling). rows_for x) q
-      ∙ form_fillings version w n 0 a defs parts attrs (value_in w attrs) (λ i. fill_index (index_form version w n defs parts attrs a) (value_in w attrs) n txt d i)
-      (λ i. fill_index (index_form version w 0 defs parts attrs a) (value_in w attrs) n txt d i) (λ i. sized version w defs parts attrs a txt n n d i)
-      (group_filled g (members_read_at parts k e)))
-      p
+  particles_filled g k e q p = written_as (ap (λ (x : Filling). fill_with F x txt d) q) p
 
 -- ---- a group's filling, where its quantifier needs it
 unless_both : (b r : Bool) (u v : List ℕ) → (b && r) ≡ true → (r ≡ true → v ≡ []) → unless b u ++ v ≡ []

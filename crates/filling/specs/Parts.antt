@@ -1,7 +1,6 @@
 -- The filling of what the bytes of a form hold at the width `w` of a value:
 -- of particles, of definitions, of what a change fills with.
 use Rattle.std.specs.Prelude.{ℕ, zero, suc, ◌+◌, ◌*◌, ◌<◌, ◌≤◌, Bool, true, false, not, ◌||◌, List, [], ◌∷◌, ltb, length, drop, get_or}
-use Rattle.std.specs.Borrow.{Bor}
 use Rattle.rules.specs.declared.GroupKind.{GroupKind}
 use Rattle.rules.specs.declared.GroupKind.TheVariants.{Sequence, Choice}
 use Rattle.rules.specs.declared.Quantifier.{Quantifier}
@@ -16,14 +15,15 @@ use Rattle.model.specs.declared.What.TheVariants.{Element, Group}
 use Rattle.model.specs.Particle.{particle_of}
 use Rattle.model.specs.Members.{particles_of, members_from, all_members}
 use Rattle.layout.specs.Bodies.{Width}
+use Rattle.layout.specs.declared.Form.{Form}
 use Rattle.form_index.specs.Indices.{IndexForm}
-use Rattle.form_index.specs.Reading.{definition_in, attribute_in, model_part, attributes_of, index_form}
+use Rattle.form_index.specs.Reading.{definition_in, attribute_in, model_part, index_form}
 use Rattle.row_writer.specs.declared.Cursor.{Cursor}
 use Rattle.row_writer.specs.Written.{Room}
 use Rattle.filling.specs.declared.Filling.{Filling}
 use Rattle.filling.specs.declared.Filling.TheVariants.{Nothing, Definition, Attribute, Particles}
 use Rattle.filling.specs.Fillings.{required_rows, fillings_of, content_rows, fill_index, filling_rows}
-use Rattle.layout.specs.Fields.{particle_depth_at, particle_index_at, particle_quantifier_at, particle_sort_at}
+use Rattle.layout.specs.Fields.{particle_quantifier_at, particle_sort_at}
 use Rattle.rules.specs.Layout.{particle_size}
 
 -- ---- 'a particle that accepts nothing fills with nothing'
@@ -91,81 +91,42 @@ value_of c = created_value (sort_of c.sort) c.value
 abbrev pub value_in : ℕ → Bytes → ℕ → Bytes
 value_in w attrs j = value_of (attribute_in w attrs j)
 
+-- ---- a form that is lent, by indices
+abbrev pub index_form_in : Form → IndexForm
+index_form_in F = index_form F.version F.width F.definition_count F.definitions.now F.particles.now F.attributes.now F.attribute_count
+
+abbrev pub values_in : Form → ℕ → Bytes
+values_in F j = value_in F.width F.attributes.now j
+
 -- of the attributes those that are REQUIRED of definition i: number j alone, and all below n
-unfoldable pub required_at : ℕ → ℕ → Bytes → ℕ → ℕ → ℕ → List (Deep FlatRow)
-required_at version w attrs d i j = required_rows (attributes_of version w attrs 0) (value_in w attrs) d i j 1
+unfoldable pub required_at : Form → ℕ → ℕ → ℕ → List (Deep FlatRow)
+required_at F d i j = required_rows (index_form_in F) (values_in F) d i j 1
 
-unfoldable pub required_in : ℕ → ℕ → Bytes → ℕ → ℕ → ℕ → List (Deep FlatRow)
-required_in version w attrs d i n = required_rows (attributes_of version w attrs 0) (value_in w attrs) d i 0 n
-
--- how many definitions there are is not looked at
-abbrev pub index_form_in : ℕ → ℕ → Bytes → Bytes → Bytes → ℕ → IndexForm
-index_form_in version w defs parts attrs a = index_form version w 0 defs parts attrs a
+unfoldable pub required_in : Form → ℕ → ℕ → ℕ → List (Deep FlatRow)
+required_in F d i n = required_rows (index_form_in F) (values_in F) d i 0 n
 
 -- of definitions of at most height h
-module _ (version w : ℕ) (defs parts attrs : Bytes) (a : ℕ) (txt : Bytes) (h d : ℕ) where
+module _ (F : Form) (txt : Bytes) (h d : ℕ) where
   unfoldable pub definition_rows : ℕ → List (Deep FlatRow)
-  definition_rows i = fill_index (index_form_in version w defs parts attrs a) (value_in w attrs) h txt d i
+  definition_rows i = fill_index (index_form_in F) (values_in F) h txt d i
 
   unfoldable pub member_rows : List ℕ → List (Deep FlatRow)
-  member_rows is = fillings_of (index_form_in version w defs parts attrs a) (value_in w attrs) (λ i. definition_rows i) is
+  member_rows is = fillings_of (index_form_in F) (values_in F) (λ i. definition_rows i) is
 
   -- what stands below an element of definition i, after its attributes
   unfoldable pub below_rows : ℕ → List (Deep FlatRow)
-  below_rows i = content_rows (index_form_in version w defs parts attrs a) (value_in w attrs) (λ j. definition_rows j) txt d (all_members (model_part defs parts i)) (definition_in defs i).kind
+  below_rows i = content_rows (index_form_in F) (values_in F) (λ j. definition_rows j) txt d (all_members (model_part F.definitions.now F.particles.now i)) (definition_in F.definitions.now i).kind
 
--- ---- a form as it is lent: definitions, particles, attributes
-abbrev pub lent_in : List (Bor Bytes) → ℕ → Bytes
-lent_in fs k = (get_or fs k (record { ref_ptr = (0, 0); now = [] })).now
-
-abbrev pub defs_in : List (Bor Bytes) → Bytes
-defs_in fs = lent_in fs 0
-
-abbrev pub parts_in : List (Bor Bytes) → Bytes
-parts_in fs = lent_in fs 1
-
-abbrev pub attrs_in : List (Bor Bytes) → Bytes
-attrs_in fs = lent_in fs 2
-
--- the width of a value, the number of attributes, the version and the number of definitions, as they are lent
-abbrev pub width_in : List ℕ → ℕ
-width_in ks = get_or ks particle_sort_at 0
-
-abbrev pub count_in : List ℕ → ℕ
-count_in ks = get_or ks particle_quantifier_at 0
-
-abbrev pub version_of_filling : List ℕ → ℕ
-version_of_filling ks = get_or ks particle_index_at 0
-
-abbrev pub size_in : List ℕ → ℕ
-size_in ks = get_or ks particle_depth_at 0
-
--- the rows of a definition, of members, of what stands below an element, and of what a change fills with
-module _ (ks : List ℕ) (fs : List (Bor Bytes)) (txt : Bytes) (h d : ℕ) where
-  abbrev pub definition_filled : ℕ → List (Deep FlatRow)
-  definition_filled i = definition_rows (version_of_filling ks) (width_in ks) (defs_in fs) (parts_in fs) (attrs_in fs) (count_in ks) txt h d i
-
-  abbrev pub members_filled : List ℕ → List (Deep FlatRow)
-  members_filled is = member_rows (version_of_filling ks) (width_in ks) (defs_in fs) (parts_in fs) (attrs_in fs) (count_in ks) txt h d is
-
-  abbrev pub below_filled : ℕ → List (Deep FlatRow)
-  below_filled i = below_rows (version_of_filling ks) (width_in ks) (defs_in fs) (parts_in fs) (attrs_in fs) (count_in ks) txt h d i
-
-  abbrev pub change_filled : Filling → List (Deep FlatRow)
-  change_filled what =
-      filling_rows (index_form (version_of_filling ks) (width_in ks) h (defs_in fs) (parts_in fs) (attrs_in fs) (count_in ks)) (value_in (width_in ks) (attrs_in fs))
-      (λ k e. members_read_at (parts_in fs) k e) what txt d
-
--- a cursor as it is lent: where the next row goes, how many may still be written, the next serial
-abbrev pub cursor_in : List ℕ → Cursor
-cursor_in l = record { at = get_or l particle_sort_at 0; left = get_or l particle_quantifier_at 0; serial = get_or l particle_index_at 0 }
+-- what a change fills with
+abbrev pub fill_with : Form → Filling → Bytes → ℕ → List (Deep FlatRow)
+fill_with F what txt d = filling_rows (index_form_in F) (λ j. values_in F j) (λ k e. members_read_at F.particles.now k e) what txt d
 
 -- ---- what the writers ask
-pub record Asks (w : ℕ) (c : Cursor) (txt : Bytes) (a h d : ℕ) : Type 0 where
-  pub width : Width w
-  pub room : Room w c
-  pub text : length txt ≤ w
-  pub attributes : a ≤ 64
+pub record Asks (F : Form) (c : Cursor) (txt : Bytes) (h d : ℕ) : Type 0 where
+  pub width : Width F.width
+  pub room : Room F.width c
+  pub text : length txt ≤ F.width
+  pub attributes : F.attribute_count ≤ 64
   pub deep : d + h < 256
 
 -- an index that its reader or its row takes

@@ -5,17 +5,16 @@ ghost use Rattle.std.specs.Prelude.{◌≡◌, ◌+◌, ◌<◌, ◌≤◌, [], 
 ghost use Rattle.rules.specs.Decode.{quantifier_of};
 ghost use Rattle.rules.specs.Model.{skips, neutral, nothing, unless, filling};
 ghost use Rattle.model.specs.Members.{members_from};
-ghost use Rattle.form_index.specs.Reading.{index_form};
 ghost use Rattle.layout.specs.Bodies.{Width};
 ghost use Rattle.row_writer.specs.Written.{Room, Written, new_row};
-ghost use Rattle.filling.specs.Fillings.{group_filled, filling_rows};
-ghost use Rattle.filling.specs.Parts.{left_out, passed, settled, member_nothing, member_filling, value_in, required_at, required_in, members_read_at, parts_in};
+ghost use Rattle.filling.specs.Fillings.{group_filled};
+ghost use Rattle.filling.specs.Parts.{left_out, passed, settled, member_nothing, member_filling, value_in, required_at, required_in, members_read_at};
 ghost use Rattle.filling.specs.Parts.{element_needed, no_element_needed};
-ghost use Rattle.filling.specs.Parts.{width_in, count_in, definition_filled, members_filled, below_filled, change_filled, cursor_in, Asks, Indexed};
+ghost use Rattle.filling.specs.Parts.{definition_rows, member_rows, below_rows, fill_with, Asks, Indexed};
 ghost use Rattle.layout.specs.Fields.{particle_quantifier_at, particle_sort_at};
 ghost use Rattle.rules.specs.Layout.{particle_size};
 
-use layout::PARTICLE_SIZE;
+use layout::{Form, PARTICLE_SIZE};
 use model::What;
 use row_writer::Cursor;
 use rules::GroupKind;
@@ -173,70 +172,28 @@ fn created_value(w: usize, attrs: &[u8], j: usize) -> &[u8]
     records::created_value(sort, layout::attribute_value(record))
 }
 
-// ---- The writers of a filling call each other as deep as definitions and groups are nested. So that their frames on
-// the stack stay small, the form is lent as one array of slices (definitions, particles, attributes), the text by one
-// reference, the width of a value, the number of attributes, the version and the number of definitions as one array of
-// numbers, and the cursor as another (its place, what is left, its serial).
-
-// Writes one row.
-fn put_row(
-    w: usize,
-    sort: u8,
-    depth: usize,
-    index: usize,
-    value: &[u8],
-    c: &mut [usize; 3],
-    out: &mut [u8],
-)
-    requires { Width w × Room w (cursor_in c.old) × (depth < 256) × (index < 65536) × (length value.now ≤ w) }
-    ensures { Written w (new_row sort depth index value.now ∷ []) (cursor_in c.old) out.old (cursor_in c.new) out.new }
-{
-    let from = Cursor {
-        at: c[0],
-        left: c[1],
-        serial: c[2],
-    };
-    let r = row_writer::put_new(w, sort, depth, index, value, from, out);
-    *c = [r.at, r.left, r.serial];
-}
+// ---- The writers of a filling call each other as deep as definitions and groups are nested, so that their frames on
+// the stack are to stay small.
 
 // Writes attribute j, if it is one that definition i needs.
-fn put_attribute(
-    version: usize,
-    w: usize,
-    i: usize,
-    j: usize,
-    attrs: &[u8],
-    depth: usize,
-    c: &mut [usize; 3],
-    out: &mut [u8],
-)
-    requires { Width w × Room w (cursor_in c.old) × (j < 64) × (depth < 256) }
-    ensures { Written w (required_at version w attrs.now depth i j) (cursor_in c.old) out.old (cursor_in c.new) out.new }
+fn put_attribute(form: &Form<'_>, i: usize, j: usize, depth: usize, c: &mut Cursor, out: &mut [u8])
+    requires { Width form.now.width × Room form.now.width c.old × (j < 64) × (depth < 256) }
+    ensures { Written form.now.width (required_at form.now depth i j) c.old out.old c.new out.new }
 {
-    if form_index::needs(version, w, attrs, i, j) {
-        put_row(w, 2, depth, j, created_value(w, attrs, j), c, out);
+    let w = form.width;
+    if form_index::needs(form.version, w, form.attributes, i, j) {
+        let value = created_value(w, form.attributes, j);
+        row_writer::put_new(w, 2, depth, j, value, c, out);
     }
 }
 
-// Writes the REQUIRED attributes of definition i, of a attributes.
-fn put_required(
-    version: usize,
-    w: usize,
-    i: usize,
-    a: usize,
-    attrs: &[u8],
-    depth: usize,
-    c: &mut [usize; 3],
-    out: &mut [u8],
-)
-    requires { Width w × Room w (cursor_in c.old) × (a ≤ 64) × (depth < 256) }
-    ensures { Written w (required_in version w attrs.now depth i a) (cursor_in c.old) out.old (cursor_in c.new) out.new }
+// Writes the REQUIRED attributes of definition i.
+fn put_required(form: &Form<'_>, i: usize, depth: usize, c: &mut Cursor, out: &mut [u8])
+    requires { Width form.now.width × Room form.now.width c.old × (form.now.attribute_count ≤ 64) × (depth < 256) }
+    ensures { Written form.now.width (required_in form.now depth i form.now.attribute_count) c.old out.old c.new out.new }
 {
-    let mut j = 0;
-    while j < a {
-        put_attribute(version, w, i, j, attrs, depth, c, out);
-        j += 1;
+    for j in 0..form.attribute_count {
+        put_attribute(form, i, j, depth, c, out);
     }
 }
 
@@ -248,23 +205,22 @@ fn put_group(
     s: &[u8],
     d: usize,
     kind: GroupKind,
-    form: &[&[u8]; 3],
-    text: &&[u8],
-    sizes: &[usize; 4],
+    form: &Form<'_>,
+    text: &[u8],
     h: usize,
     depth: usize,
-    c: &mut [usize; 3],
+    c: &mut Cursor,
     out: &mut [u8],
 )
-    requires { (d ≤ 256) × Asks (width_in sizes.now) (cursor_in c.old) text.now.now (count_in sizes.now) h depth }
-    ensures { Written (width_in sizes.now)
-        (members_filled sizes.now form.now text.now.now h depth (filling kind (members_from d s.now)))
-        (cursor_in c.old) out.old (cursor_in c.new) out.new }
+    requires { (d ≤ 256) × Asks form.now c.old text.now h depth }
+    ensures { Written form.now.width
+        (member_rows form.now text.now h depth (filling kind (members_from d s.now)))
+        c.old out.old c.new out.new }
 {
     let mut t = s;
     while t.len() >= PARTICLE_SIZE {
         let own = layout::particle_depth(t) as usize;
-        if c[1] == 0 {
+        if c.left == 0 {
             return;
         }
         if own < d {
@@ -273,7 +229,7 @@ fn put_group(
         if is_passed(t, own, d, kind) {
             t = &t[PARTICLE_SIZE..];
         } else {
-            put_member(t, d, form, text, sizes, h, depth, c, out);
+            put_member(t, d, form, text, h, depth, c, out);
             match kind {
                 GroupKind::Sequence => t = &t[PARTICLE_SIZE..],
                 GroupKind::Choice => return,
@@ -288,17 +244,16 @@ fn put_group(
 fn put_member(
     s: &[u8],
     d: usize,
-    form: &[&[u8]; 3],
-    text: &&[u8],
-    sizes: &[usize; 4],
+    form: &Form<'_>,
+    text: &[u8],
     h: usize,
     depth: usize,
-    c: &mut [usize; 3],
+    c: &mut Cursor,
     out: &mut [u8],
 )
-    requires { (d < 256) × (particle_size ≤ length s.now) × Asks (width_in sizes.now) (cursor_in c.old) text.now.now (count_in sizes.now) h depth }
-    ensures { Written (width_in sizes.now) (members_filled sizes.now form.now text.now.now h depth (member_filling d s.now))
-        (cursor_in c.old) out.old (cursor_in c.new) out.new }
+    requires { (d < 256) × (particle_size ≤ length s.now) × Asks form.now c.old text.now h depth }
+    ensures { Written form.now.width (member_rows form.now text.now h depth (member_filling d s.now))
+        c.old out.old c.new out.new }
 {
     let p = model::read_particle(s, 0);
     let q = p.quantifier;
@@ -307,7 +262,7 @@ fn put_member(
         return;
     }
     match what {
-        What::Element(i) => put_definition(i, form, text, sizes, h, depth, c, out),
+        What::Element(i) => put_definition(i, form, text, h, depth, c, out),
         What::Group(k, _) => {
             let t = &s[PARTICLE_SIZE..];
             if needs_no_element(t, d + 1) {
@@ -321,7 +276,7 @@ fn put_member(
                     }
                 }
             }
-            put_group(t, d + 1, k, form, text, sizes, h, depth, c, out)
+            put_group(t, d + 1, k, form, text, h, depth, c, out)
         }
     }
 }
@@ -330,65 +285,51 @@ fn put_member(
 #[cycle(put_below_put_definition_put_group_put_member)]
 fn put_definition(
     i: usize,
-    form: &[&[u8]; 3],
-    text: &&[u8],
-    sizes: &[usize; 4],
+    form: &Form<'_>,
+    text: &[u8],
     h: usize,
     depth: usize,
-    c: &mut [usize; 3],
+    c: &mut Cursor,
     out: &mut [u8],
 )
-    requires { (i ≤ 256) × Asks (width_in sizes.now) (cursor_in c.old) text.now.now (count_in sizes.now) h depth }
-    ensures { Written (width_in sizes.now) (definition_filled sizes.now form.now text.now.now h depth i)
-        (cursor_in c.old) out.old (cursor_in c.new) out.new }
+    requires { (i ≤ 256) × Asks form.now c.old text.now h depth }
+    ensures { Written form.now.width (definition_rows form.now text.now h depth i)
+        c.old out.old c.new out.new }
 {
     if h == 0 {
         return;
     }
-    let w = sizes[0];
-    let t = *text;
-    put_row(w, 1, depth, i, &t[..0], c, out);
-    put_required(sizes[2], w, i, sizes[1], form[2], depth + 1, c, out);
-    put_below(i, form, text, sizes, h - 1, depth + 1, c, out)
+    let w = form.width;
+    row_writer::put_new(w, 1, depth, i, &text[..0], c, out);
+    put_required(form, i, depth + 1, c, out);
+    put_below(i, form, text, h - 1, depth + 1, c, out)
 }
 
 // Writes the text of definition i, or the filling of its top list.
 #[cycle(put_below_put_definition_put_group_put_member)]
 fn put_below(
     i: usize,
-    form: &[&[u8]; 3],
-    text: &&[u8],
-    sizes: &[usize; 4],
+    form: &Form<'_>,
+    text: &[u8],
     h: usize,
     depth: usize,
-    c: &mut [usize; 3],
+    c: &mut Cursor,
     out: &mut [u8],
 )
-    requires { (i ≤ 256) × Asks (width_in sizes.now) (cursor_in c.old) text.now.now (count_in sizes.now) h depth }
-    ensures { Written (width_in sizes.now) (below_filled sizes.now form.now text.now.now h depth i)
-        (cursor_in c.old) out.old (cursor_in c.new) out.new }
+    requires { (i ≤ 256) × Asks form.now c.old text.now h depth }
+    ensures { Written form.now.width (below_rows form.now text.now h depth i)
+        c.old out.old c.new out.new }
 {
-    let k = form_index::kind_of(form[0], i);
+    let k = form_index::kind_of(form.definitions, i);
     match k {
         0 => {}
-        1 => put_row(sizes[0], 3, depth, 0, *text, c, out),
+        1 => row_writer::put_new(form.width, 3, depth, 0, text, c, out),
         _ => {
-            let s = form_index::model_part(form[0], form[1], i);
+            let s = form_index::model_part(form.definitions, form.particles, i);
             if needs_no_element(s, 0) {
                 return;
             }
-            put_group(
-                s,
-                0,
-                GroupKind::Sequence,
-                form,
-                text,
-                sizes,
-                h,
-                depth,
-                c,
-                out,
-            )
+            put_group(s, 0, GroupKind::Sequence, form, text, h, depth, c, out)
         }
     }
 }
@@ -398,80 +339,43 @@ fn put_members(
     kind: GroupKind,
     first: usize,
     d: usize,
-    form: &[&[u8]; 3],
-    text: &&[u8],
-    sizes: &[usize; 4],
+    form: &Form<'_>,
+    text: &[u8],
     h: usize,
     depth: usize,
-    c: &mut [usize; 3],
+    c: &mut Cursor,
     out: &mut [u8],
 )
-    requires { (first ≤ 256) × (d ≤ 256) × Asks (width_in sizes.now) (cursor_in c.old) text.now.now (count_in sizes.now) h depth }
-    ensures { Written (width_in sizes.now)
-        (members_filled sizes.now form.now text.now.now h depth
-        (group_filled kind (members_read_at (parts_in form.now) first d)))
-        (cursor_in c.old) out.old (cursor_in c.new) out.new }
+    requires { (first ≤ 256) × (d ≤ 256) × Asks form.now c.old text.now h depth }
+    ensures { Written form.now.width
+        (member_rows form.now text.now h depth
+        (group_filled kind (members_read_at form.now.particles.now first d)))
+        c.old out.old c.new out.new }
 {
-    let s = layout::particles_from(form[1], first);
+    let s = layout::particles_from(form.particles, first);
     if fills_nothing(s, d, kind) {
         return;
     }
-    put_group(s, d, kind, form, text, sizes, h, depth, c, out)
+    put_group(s, d, kind, form, text, h, depth, c, out)
 }
 
-/// Writes what a change fills with, of a form that is lent; no definition is higher than h.
-pub fn put_any(
+/// Writes what a change fills with, as rows of depth `depth`.
+pub fn put_filling(
     what: Filling,
-    form: &[&[u8]; 3],
-    text: &&[u8],
-    sizes: &[usize; 4],
-    h: usize,
-    depth: usize,
-    c: &mut [usize; 3],
-    out: &mut [u8],
-)
-    requires { Indexed what × Asks (width_in sizes.now) (cursor_in c.old) text.now.now (count_in sizes.now) h depth }
-    ensures { Written (width_in sizes.now) (change_filled sizes.now form.now text.now.now h depth what)
-        (cursor_in c.old) out.old (cursor_in c.new) out.new }
-{
-    match what {
-        Filling::Nothing => {}
-        Filling::Definition(i) => put_definition(i, form, text, sizes, h, depth, c, out),
-        Filling::Attribute(j) => put_row(sizes[0], 2, depth, j, *text, c, out),
-        Filling::Particles(k, first, d) => put_members(
-            k, first, d, form, text, sizes, h, depth, c, out,
-        ),
-    }
-}
-
-/// Writes what a change fills with, as rows of depth `depth`: n definitions, a attributes.
-pub fn put_filling<'a>(
-    version: usize,
-    w: usize,
-    n: usize,
-    defs: &'a [u8],
-    parts: &'a [u8],
-    a: usize,
-    attrs: &'a [u8],
-    what: Filling,
+    form: &Form<'_>,
     text: &[u8],
     depth: usize,
-    c: Cursor,
+    c: &mut Cursor,
     out: &mut [u8],
-) -> Cursor
-    requires { Indexed what × Asks w c text.now a n depth }
-    ensures { Written w
-        (filling_rows (index_form version w n defs.now parts.now attrs.now a) (λ j. value_in w attrs.now j)
-        (λ k d. members_read_at parts.now k d) what text.now depth)
-        c out.old result out.new }
+)
+    requires { Indexed what × Asks form.now c.old text.now form.now.definition_count depth }
+    ensures { Written form.now.width (fill_with form.now what text.now depth) c.old out.old c.new out.new }
 {
-    let form = [defs, parts, attrs];
-    let sizes = [w, a, version, n];
-    let mut r = [c.at, c.left, c.serial];
-    put_any(what, &form, &text, &sizes, n, depth, &mut r, out);
-    Cursor {
-        at: r[0],
-        left: r[1],
-        serial: r[2],
+    let h = form.definition_count;
+    match what {
+        Filling::Nothing => {}
+        Filling::Definition(i) => put_definition(i, form, text, h, depth, c, out),
+        Filling::Attribute(j) => row_writer::put_new(form.width, 2, depth, j, text, c, out),
+        Filling::Particles(k, first, d) => put_members(k, first, d, form, text, h, depth, c, out),
     }
 }

@@ -27,7 +27,7 @@ use Rattle.filling.proofs.DepthLaws.{length_filling}
 use Rattle.filling.proofs.NewLaws.{new_filling}
 use Rattle.row_walk.specs.declared.Plan.{Plan}
 use Rattle.row_walk.specs.Walk.{walked, at_first}
-use Rattle.plan_numbers.specs.Refilled.{refilled}
+use Rattle.row_walk.specs.Refilled.{refilled}
 use Rattle.walk_writer.proofs.SettledLaws.{walked_refilled}
 use Rattle.row_bound.specs.Bound.{counted_to}
 use Rattle.row_bound.proofs.BoundLaws.{new_few, product_few}

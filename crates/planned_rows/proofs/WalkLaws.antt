@@ -10,7 +10,7 @@ use lib.Seq.{length-take-le}
 use Rattle.rules.specs.Bytes.{Bytes}
 use Rattle.rules.specs.Preorder.{Deep}
 use Rattle.rules.specs.Layout.{row_size, FlatRow, FlatStore, flat}
-use Rattle.rules.specs.Decode.{number_at, read_row, read_many, definition_count, attribute_count, row_count}
+use Rattle.rules.specs.Decode.{number_at, read_row, read_many, row_count}
 use Rattle.rules.specs.WellFormed.{is_value}
 use Rattle.rules.specs.Passing.{passes}
 use Rattle.rules.proofs.Words.{and_split}
@@ -23,16 +23,18 @@ use Rattle.store_check.proofs.StringChecks.{Headed, laid_in, rows_whole, rows_sm
 use Rattle.store_check.proofs.BodiesRead.{rows_fit_lem, read_form_lem, read_attribute_lem, read_rows_lem}
 use Rattle.store_check.proofs.StoreFacts.{headed_of}
 use Rattle.lookup.specs.Bodies.{bodies_of}
-use Rattle.layout.specs.declared.Shape.{Shape}
-use Rattle.layout.specs.Bodies.{Width, width_of, Number, shape_of, ShapeOf, definition_body, particle_body, attribute_body, row_body, definitions_in, particles_in, attributes_in, tree_rows_in}
-use Rattle.layout.proofs.LayoutLaws.{width_small, by_shape}
+use Rattle.layout.specs.Bodies.{Width, width_of, Number, tree_rows_in}
+use Rattle.layout.proofs.LayoutLaws.{width_small}
 use Rattle.row_writer.specs.declared.Cursor.{Cursor}
 use Rattle.row_writer.specs.Written.{new_in, Written, Room}
 use Rattle.row_writer.proofs.WrittenLaws.{written_as}
 use Rattle.filling.specs.Fillings.{filling_rows}
 use Rattle.row_walk.specs.declared.Plan.{Plan}
 use Rattle.row_walk.specs.Walk.{walked, at_first}
-use Rattle.filling.specs.Parts.{value_of}
+use Rattle.filling.specs.Parts.{value_of, value_in, members_read_at}
+use Rattle.form_index.specs.Reading.{index_form}
+use Rattle.layout.specs.declared.Form.{Form}
+use Rattle.layout.specs.Form.{FormOf}
 use Rattle.walk_writer.specs.Step.{plan_filling, Ready, WalkRows}
 use Rattle.row_bound.specs.declared.Most.{Most}
 use Rattle.row_bound.specs.Bound.{counted_to, Bounds}
@@ -43,7 +45,7 @@ use Rattle.store_laws.proofs.StoreLaws.{holds}
 use Rattle.planned_rows.proofs.PartLaws.{members_at_lem}
 use Rattle.store_laws.proofs.RowBounds.{Bounded, rows_bounded}
 use Rattle.codec.proofs.Records.{length_many}
-use Rattle.layout.specs.Fields.{next_at, version_at}
+use Rattle.layout.specs.Fields.{next_at}
 
 -- ---- rows that fit and are bounded
 walk_rows : (w count : ℕ) (s : Bytes) → Small s → row_size w * count ≤ length s → each_fits (row_fits w) (row_size w) count s ≡ true
@@ -63,52 +65,36 @@ walk_rows w (suc count) s a l e b =
     )
 
 -- ---- a byte string that passes
--- the version, the width and the bodies that are read off it
-pub record Reads (bs : Bytes) (version w n : ℕ) (defs parts : Bytes) (a : ℕ) (attrs rows : Bytes) (count : ℕ) : Type 0 where
-  pub version_is : version ≡ number_at version_at 4 bs
-  pub w_is : w ≡ width_of bs
-  pub n_is : n ≡ definition_count bs
-  pub defs_is : defs ≡ definitions_in bs
-  pub parts_is : parts ≡ particles_in bs
-  pub a_is : a ≡ attribute_count bs
-  pub attrs_is : attrs ≡ attributes_in bs
+-- the form and the rows that are read off it
+pub record Reads (bs : Bytes) (F : Form) (rows : Bytes) (count : ℕ) : Type 0 where
+  pub form : FormOf bs F
   pub rows_is : rows ≡ tree_rows_in bs
   pub count_is : count ≡ row_count bs
 
-pub reads_of : {bs : Bytes} {s : Shape} {defs parts attrs rows : Bytes} → ShapeOf bs s → defs ≡ definition_body s bs → parts ≡ particle_body s bs → attrs ≡ attribute_body s bs → rows ≡ row_body s bs
-    → Reads bs s.version s.width s.definitions defs parts s.attributes attrs rows s.rows
-unfolding shape_of
-reads_of {bs} x defs parts attrs rows =
-    record {
-      version_is = ap (λ (z : Shape). z.version) x.is;
-      w_is = ap (λ (z : Shape). z.width) x.is;
-      n_is = ap (λ (z : Shape). z.definitions) x.is;
-      defs_is = by_shape definition_body bs x defs;
-      parts_is = by_shape particle_body bs x parts;
-      a_is = ap (λ (z : Shape). z.attributes) x.is;
-      attrs_is = by_shape attribute_body bs x attrs;
-      rows_is = by_shape row_body bs x rows;
-      count_is = ap (λ (z : Shape). z.rows) x.is;
-    }
+pub reads_of : {bs : Bytes} {F : Form} {rows : Bytes} {count : ℕ} → FormOf bs F → rows ≡ tree_rows_in bs → Number (row_count bs) count → Reads bs F rows count
+reads_of f e n = record { form = f; rows_is = e; count_is = n.value }
 
-module _ {bs : Bytes} (q : passes bs ≡ true) {version w n : ℕ} {defs parts : Bytes} {a : ℕ} {attrs rows : Bytes} {count : ℕ} (x : Reads bs version w n defs parts a attrs rows count) where
+module _ {bs : Bytes} (q : passes bs ≡ true) {F : Form} {rows : Bytes} {count : ℕ} (x : Reads bs F rows count) where
   h : Headed bs
   h = headed_of q
 
-  pub walk_ready : {v : Bytes} {p : Plan} → is_value (width_of bs) v ≡ true → Sized p → Ready w n a v p
+  abbrev w : ℕ
+  w = F.width
+
+  pub walk_ready : {v : Bytes} {p : Plan} → is_value (width_of bs) v ≡ true → Sized p → Ready F v p
   walk_ready {v} t p =
       record {
-        width = omega (arith, x.w_is, width_small bs);
-        definitions = omega (arith, x.n_is, (laid_in h).bodies.definition_body.few);
-        attributes = omega (arith, x.a_is, (laid_in h).bodies.attribute_body.few);
-        text = omega (arith, x.w_is, value_width_lem (width_of bs) v t);
+        width = omega (arith, x.form.width, width_small bs);
+        definitions = omega (arith, x.form.definition_count, (laid_in h).bodies.definition_body.few);
+        attributes = omega (arith, x.form.attribute_count, (laid_in h).bodies.attribute_body.few);
+        text = omega (arith, x.form.width, value_width_lem (width_of bs) v t);
         plan = p.moves;
         filling = p.filling;
       }
 
   pub walk_whole : row_size w * count ≤ length rows
   walk_whole =
-      let e : row_size w * count ≡ row_size (width_of bs) * row_count bs = λ i. row_size (x.w_is i) * x.count_is i in
+      let e : row_size w * count ≡ row_size (width_of bs) * row_count bs = λ i. row_size (x.form.width i) * x.count_is i in
       omega (arith, ap (λ (s : Bytes). length s) x.rows_is, e, rows_whole h)
 
   pub walk_asked : WalkRows w count rows
@@ -117,40 +103,41 @@ module _ {bs : Bytes} (q : passes bs ≡ true) {version w n : ℕ} {defs parts :
       let b : read_many read_row (row_size (width_of bs)) (row_count bs) (tree_rows_in bs) ≡ (flat (store_in bs)).rows = read_rows_lem h ∙ ap (λ (f : FlatStore). f.rows) (holds bs q).bodies in
       subst (λ (s : Bytes). WalkRows w count s) (sym x.rows_is)
       (subst (λ (k : ℕ). WalkRows w k (tree_rows_in bs)) (sym x.count_is)
-      (subst (λ (k : ℕ). WalkRows k (row_count bs) (tree_rows_in bs)) (sym x.w_is)
+      (subst (λ (k : ℕ). WalkRows k (row_count bs) (tree_rows_in bs)) (sym x.form.width)
       (walk_rows (width_of bs) (row_count bs) (tree_rows_in bs) (rows_small h) (omega (arith, rows_whole h)) (rows_fit_lem h q)
       (subst (λ (ys : List (Deep FlatRow)). Every Bounded ys) (sym b) (rows_bounded (store_in bs) (holds bs q).good)))))
 
+  -- the filling of the walk is that of the plan
+  fill_after : (p : Plan) (v : Bytes) (d : ℕ) → plan_filling F p v d ≡ fill_of p v (bodies_of bs) d
+  unfolding bodies_of width_of
+  fill_after p v d =
+      (λ i. filling_rows
+      (index_form (x.form.version i) (x.form.width i) (x.form.definition_count i) (x.form.definitions i) (x.form.particles i) (x.form.attributes i) (x.form.attribute_count i))
+      (λ j. value_in (x.form.width i) (x.form.attributes i) j) (λ k e. members_read_at (x.form.particles i) k e) p.filling v d)
+      ∙ (λ i. filling_rows (read_form_lem h q i) (λ j. value_of (read_attribute_lem h q j i)) (λ k e. members_at_lem h k e i) p.filling v d)
+
   -- the rows that the walk leaves are those after the plan
-  rows_after_lem : (p : Plan) (v : Bytes) → rows_after p v (bodies_of bs) ≡ walked p v (plan_filling version w n defs parts a attrs p v) (at_first p) (read_many read_row (row_size w) count rows)
+  rows_after_lem : (p : Plan) (v : Bytes) → rows_after p v (bodies_of bs) ≡ walked p v (plan_filling F p v) (at_first p) (read_many read_row (row_size w) count rows)
   unfolding rows_after bodies_of width_of
   rows_after_lem p v =
       sym
-      ((λ i. walked p v (plan_filling (x.version_is i) (x.w_is i) (x.n_is i) (x.defs_is i) (x.parts_is i) (x.a_is i) (x.attrs_is i) p v) (at_first p)
-      (read_many read_row (row_size (x.w_is i)) (x.count_is i) (x.rows_is i)))
-      ∙ (λ i. walked p v (λ d. filling_rows (read_form_lem h q i) (λ j. value_of (read_attribute_lem h q j i)) (λ k e. members_at_lem h k e i) p.filling v d) (at_first p) (read_rows_lem h i)))
+      ((λ i. walked p v (λ d. fill_after p v d i) (at_first p) (read_many read_row (row_size (x.form.width i)) (x.count_is i) (x.rows_is i)))
+      ∙ (λ i. walked p v (fill_of p v (bodies_of bs)) (at_first p) (read_rows_lem h i)))
 
   -- .. and written from the serials of the store on
   pub walk_from_lem : (p : Plan) (v : Bytes) {at next : ℕ} {out : Bytes} {r : Cursor} {out' : Bytes} → Number (number_at next_at 4 bs) next
-      → Written w (walked p v (plan_filling version w n defs parts a attrs p v) (at_first p) (read_many read_row (row_size w) count rows))
+      → Written w (walked p v (plan_filling F p v) (at_first p) (read_many read_row (row_size w) count rows))
       (record { at = at; left = 4097; serial = next }) out r out'
       → Written (width_of bs) (rows_after p v (bodies_of bs)) (walk_from at bs) out r out'
   walk_from_lem p v {at} {next} {out} {r} {out'} m d =
-      let xs : List (Deep FlatRow) = walked p v (plan_filling version w n defs parts a attrs p v) (at_first p) (read_many read_row (row_size w) count rows) in
+      let xs : List (Deep FlatRow) = walked p v (plan_filling F p v) (at_first p) (read_many read_row (row_size w) count rows) in
       written_as (rows_after_lem p v)
-      (subst (λ (k : ℕ). Written k xs (walk_from at bs) out r out') x.w_is
+      (subst (λ (k : ℕ). Written k xs (walk_from at bs) out r out') x.form.width
       (subst (λ (k : ℕ). Written w xs (record { at = at; left = 4097; serial = k }) out r out') m.value d))
-
-  -- the filling of the walk is that of the plan
-  fill_after : (p : Plan) (v : Bytes) (d : ℕ) → plan_filling version w n defs parts a attrs p v d ≡ fill_of p v (bodies_of bs) d
-  unfolding bodies_of width_of
-  fill_after p v d =
-      (λ i. plan_filling (x.version_is i) (x.w_is i) (x.n_is i) (x.defs_is i) (x.parts_is i) (x.a_is i) (x.attrs_is i) p v d)
-      ∙ (λ i. filling_rows (read_form_lem h q i) (λ j. value_of (read_attribute_lem h q j i)) (λ k e. members_at_lem h k e i) p.filling v d)
 
   -- .. and what is added to the rows of the store
   pub rows_added : (p : Plan) (v : Bytes) {m : Most}
-      → Bounds (walked p v (plan_filling version w n defs parts a attrs p v) (at_first p) (read_many read_row (row_size w) count rows)) (plan_filling version w n defs parts a attrs p v 0) count m
+      → Bounds (walked p v (plan_filling F p v) (at_first p) (read_many read_row (row_size w) count rows)) (plan_filling F p v 0) count m
       → Bounds (rows_after p v (bodies_of bs)) (fill_of p v (bodies_of bs) 0) (row_count bs) m
   rows_added p v y =
       record {

@@ -12,7 +12,7 @@ ghost use Rattle.layout.specs.Bodies.{width_of, most_form};
 ghost use Rattle.lookup.specs.Bodies.{bodies_of};
 ghost use Rattle.store_limits.specs.Limits.{limit_of};
 ghost use Rattle.row_writer.specs.Written.{Written, new_in};
-ghost use Rattle.plan_numbers.specs.Refilled.{refilled};
+ghost use Rattle.row_walk.specs.Refilled.{refilled};
 ghost use Rattle.row_bound.specs.Bound.{counted_to, Bounds};
 ghost use Rattle.planned_rows.specs.Planned.{fill_of, rows_after};
 ghost use Rattle.planned_rows.specs.Walking.{walk_from, Sized};
@@ -30,31 +30,16 @@ pub fn walk_rows(store: &[u8], plan: Plan, text: &[u8], at: usize, out: &mut [u8
     ensures { Written (width_of store.now) (rows_after plan text.now (bodies_of store.now))
         (walk_from at store.now) out.old result out.new }
 {
-    let s = layout::shape_of(store);
-    let defs = layout::definition_body(store, s);
-    let parts = layout::particle_body(store, s);
-    let attrs = layout::attribute_body(store, s);
-    let rows = layout::row_body(store, s);
-    let c = Cursor {
+    let form = layout::form_of(store);
+    let rows = layout::rows_of(store);
+    let count = layout::row_count(store);
+    let mut c = Cursor {
         at,
         left: ROWS_PAST_CEILING,
         serial: layout::next_serial(store),
     };
-    walk_writer::walk(
-        s.version as usize,
-        s.width,
-        s.definitions,
-        defs,
-        parts,
-        s.attributes,
-        attrs,
-        rows,
-        s.rows,
-        plan,
-        text,
-        c,
-        out,
-    )
+    walk_writer::walk(&form, rows, count, plan, text, &mut c, out);
+    c
 }
 
 // The most rows that a plan adds to those of a store.
@@ -63,48 +48,19 @@ fn most_added(store: &[u8], plan: Plan, text: &[u8]) -> Most
     ensures { Bounds (rows_after plan text.now (bodies_of store.now)) (fill_of plan text.now (bodies_of store.now) 0)
         (row_count store.now) result }
 {
-    let s = layout::shape_of(store);
-    let defs = layout::definition_body(store, s);
-    let parts = layout::particle_body(store, s);
-    let attrs = layout::attribute_body(store, s);
-    let rows = layout::row_body(store, s);
-    row_bound::most_added(
-        s.version as usize,
-        s.width,
-        s.definitions,
-        defs,
-        parts,
-        s.attributes,
-        attrs,
-        rows,
-        s.rows,
-        plan,
-        text,
-    )
+    let form = layout::form_of(store);
+    let rows = layout::rows_of(store);
+    let count = layout::row_count(store);
+    row_bound::most_added(&form, rows, count, plan, text)
 }
 
 // A plan with one row in the place of each filling: the new rows of its walk are as many as the places that are filled.
 fn one_row_each(plan: Plan) -> Plan
     ensures { result ≡ refilled plan (Filling.Attribute 0) }
 {
-    let above = plan.above;
-    let takes = plan.takes;
-    let later = plan.later;
-    let marks = plan.marks;
-    let definitions = plan.definitions;
-    let attributes = plan.attributes;
     Plan {
-        above,
-        takes,
-        fills: plan.fills,
-        later,
         filling: Filling::Attribute(0),
-        marks,
-        keeps: plan.keeps,
-        spares: plan.spares,
-        set: plan.set,
-        definitions,
-        attributes,
+        ..plan
     }
 }
 

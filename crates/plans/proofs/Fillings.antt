@@ -9,7 +9,7 @@ use lib.Dec.{eqb}
 use lib.ListN.{length}
 use Rattle.rules.specs.declared.GroupKind.TheVariants.{Sequence}
 use Rattle.rules.specs.Bytes.{Bytes}
-use Rattle.rules.specs.Model.{Members, names, rename, filling}
+use Rattle.rules.specs.Model.{Members, rename, filling}
 use Rattle.rules.specs.Store.{Content, empty, pcdata, complex, Attribute, Form, Row, Forest, bare, tree, ◌⧺◌, Store, model_of}
 use Rattle.rules.specs.Preorder.{Deep, preorder}
 use Rattle.rules.specs.Layout.{value_width, FlatAttribute, FlatRow, flat, kind_code, own_attributes, all_attributes, indexed}

@@ -16,11 +16,20 @@ const UNMOVED: Shift = Shift {
     less: 0,
 };
 
-fn unmarked() -> [u8; 64]
-    ensures { result ≡ unmarked }
-{
-    [0; 64]
-}
+// A plan that does nothing.
+const NOTHING: Plan = Plan {
+    above: Which::Nothing,
+    takes: Which::Nothing,
+    fills: false,
+    later: Later::Never,
+    filling: Filling::Nothing,
+    marks: [0; 64],
+    keeps: false,
+    spares: false,
+    set: 0,
+    definitions: UNMOVED,
+    attributes: UNMOVED,
+};
 
 /// Rows come.
 pub fn filling_plan(above: Which, later: Later, filling: Filling) -> Plan
@@ -28,16 +37,10 @@ pub fn filling_plan(above: Which, later: Later, filling: Filling) -> Plan
 {
     Plan {
         above,
-        takes: Which::Nothing,
         fills: true,
         later,
         filling,
-        marks: unmarked(),
-        keeps: false,
-        spares: false,
-        set: 0,
-        definitions: UNMOVED,
-        attributes: UNMOVED,
+        ..NOTHING
     }
 }
 
@@ -48,15 +51,7 @@ pub fn taking_plan(above: Which, takes: Which) -> Plan
     Plan {
         above,
         takes,
-        fills: false,
-        later: Later::Never,
-        filling: Filling::Nothing,
-        marks: unmarked(),
-        keeps: false,
-        spares: false,
-        set: 0,
-        definitions: UNMOVED,
-        attributes: UNMOVED,
+        ..NOTHING
     }
 }
 
@@ -64,19 +59,7 @@ pub fn taking_plan(above: Which, takes: Which) -> Plan
 pub fn setting_plan(set: u32) -> Plan
     ensures { result ≡ setting_plan set }
 {
-    Plan {
-        above: Which::Nothing,
-        takes: Which::Nothing,
-        fills: false,
-        later: Later::Never,
-        filling: Filling::Nothing,
-        marks: unmarked(),
-        keeps: false,
-        spares: false,
-        set,
-        definitions: UNMOVED,
-        attributes: UNMOVED,
-    }
+    Plan { set, ..NOTHING }
 }
 
 // ---- attributes
@@ -87,20 +70,15 @@ pub fn add_attribute_plan(version: usize, owner: usize, at: usize, sort: u8) -> 
 {
     Plan {
         above: Which::Elements(owner),
-        takes: Which::Nothing,
         fills: records::must_be_present(version, sort),
         later: Later::Past(at),
         filling: Filling::Attribute(at),
-        marks: unmarked(),
-        keeps: false,
-        spares: false,
-        set: 0,
-        definitions: UNMOVED,
         attributes: Shift {
             from: at,
             more: 1,
             less: 0,
         },
+        ..NOTHING
     }
 }
 
@@ -111,19 +89,12 @@ pub fn destroy_attribute_plan(owner: usize, attribute: usize) -> Plan
     Plan {
         above: Which::Elements(owner),
         takes: Which::Attributes(attribute),
-        fills: false,
-        later: Later::Never,
-        filling: Filling::Nothing,
-        marks: unmarked(),
-        keeps: false,
-        spares: false,
-        set: 0,
-        definitions: UNMOVED,
         attributes: Shift {
             from: attribute,
             more: 0,
             less: 1,
         },
+        ..NOTHING
     }
 }
 
@@ -149,16 +120,11 @@ pub fn insert_element_plan(owner: usize, marks: [u8; 64], definition: usize, nee
 {
     Plan {
         above: Which::Elements(owner),
-        takes: Which::Nothing,
         fills: needs,
         later: Later::Unmarked,
         filling: Filling::Definition(definition),
         marks,
-        keeps: false,
-        spares: false,
-        set: 0,
-        definitions: UNMOVED,
-        attributes: UNMOVED,
+        ..NOTHING
     }
 }
 
@@ -198,8 +164,6 @@ pub fn requantify_plan(
         marks,
         keeps: cut,
         spares: true,
-        set: 0,
-        definitions: UNMOVED,
-        attributes: UNMOVED,
+        ..NOTHING
     }
 }

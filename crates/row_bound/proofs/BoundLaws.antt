@@ -13,8 +13,8 @@ use Rattle.rules.specs.Preorder.{Deep}
 use Rattle.rules.specs.Layout.{FlatRow, row_size}
 use Rattle.rules.specs.Decode.{read_row, read_many}
 use Rattle.rules.proofs.BooleanLaws.{Every, every_map, every_any}
-use Rattle.form_index.specs.Reading.{index_form}
-use Rattle.filling.specs.Parts.{value_in, members_read_at}
+use Rattle.layout.specs.declared.Form.{Form}
+use Rattle.filling.specs.Parts.{index_form_in, values_in, members_read_at}
 use Rattle.filling.proofs.DepthLaws.{length_filling}
 use Rattle.row_writer.specs.Written.{is_new_row, new_in}
 use Rattle.row_writer.proofs.WrittenLaws.{new_append}
@@ -111,21 +111,21 @@ counted_times F (suc k) r e h =
 pub product_few : {one k : ℕ} → one ≤ 4097 → k ≤ 4097 → one * k ≤ 16785409
 product_few {one} {k} a b = mul-le-mul {n₁ = one} {m₁ = k} {n₂ = 4097} {m₂ = 4097} a b
 
-module _ (version w n : ℕ) (defs parts : Bytes) (a : ℕ) (attrs s : Bytes) (count : ℕ) (p : Plan) (v : Bytes) (x : WalkRows w count s) where
+module _ (F : Form) (s : Bytes) (count : ℕ) (p : Plan) (v : Bytes) (x : WalkRows F.width count s) where
   abbrev fill : ℕ → List (Deep FlatRow)
-  fill d = plan_filling version w n defs parts a attrs p v d
+  fill d = plan_filling F p v d
 
   abbrev xs : List (Deep FlatRow)
-  xs = read_many read_row (row_size w) count s
+  xs = read_many read_row (row_size F.width) count s
 
   same : (d : ℕ) → length (fill d) ≤ length (fill 0)
-  same d = omega (arith, length_filling (index_form version w n defs parts attrs a) (λ j. value_in w attrs j) (λ k e. members_read_at parts k e) p.filling v d 0)
+  same d = omega (arith, length_filling (index_form_in F) (λ j. values_in F j) (λ k e. members_read_at F.particles.now k e) p.filling v d 0)
 
   adds_count : {r : ℕ} → Adds (walked p v fill (at_first p) xs) (length xs) r → Adds (walked p v fill (at_first p) xs) count r
-  adds_count y = let n : length xs ≡ count = length_many read_row (row_size w) count s in record { few = y.few; rows = λ h. omega (arith, y.rows h, n); new = y.new }
+  adds_count y = let n : length xs ≡ count = length_many read_row (row_size F.width) count s in record { few = y.few; rows = λ h. omega (arith, y.rows h, n); new = y.new }
 
   old : Every Old xs
-  old = each_old w count s (rows_old w count s x)
+  old = each_old F.width count s (rows_old F.width count s x)
 
   -- a plan that fills nothing
   pub bounds_none : p.fills ≡ false → Bounds (walked p v fill (at_first p) xs) (fill 0) count (record { one = 0; all = 0 })

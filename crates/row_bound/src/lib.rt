@@ -5,14 +5,14 @@ ghost use Rattle.std.specs.Prelude.{◌≡◌, ◌+◌, ◌*◌, ◌≤◌, leng
 ghost use Rattle.rules.specs.Layout.{row_size};
 ghost use Rattle.rules.specs.Decode.{read_row, read_many};
 ghost use Rattle.layout.specs.Bodies.{Width};
-ghost use Rattle.row_walk.specs.Walk.{matches, names_ground, walked, at_first};
-ghost use Rattle.row_walk.specs.Step.{valueless};
-ghost use Rattle.walk_writer.specs.Step.{fill_with, plan_filling, Ready, WalkRows};
-ghost use Rattle.filling.specs.Parts.{Indexed};
+ghost use Rattle.row_walk.specs.Walk.{walked, at_first};
+ghost use Rattle.walk_writer.specs.Step.{plan_filling, Ready, WalkRows};
+ghost use Rattle.filling.specs.Parts.{fill_with, Indexed};
 ghost use Rattle.row_bound.specs.Bound.{only_if, matching_in, places_in, counted_to, Bounds};
 
 use filling::Filling;
-use row_walk::{Head, Plan, Which};
+use layout::Form;
+use row_walk::{Plan, Which};
 use row_writer::Cursor;
 use store_limits::ROWS_PAST_CEILING;
 
@@ -32,34 +32,6 @@ fn more(n: usize, b: bool) -> usize
     if b { n + 1 } else { n }
 }
 
-// Whether a row is one of them.
-fn matches(w: Which, h: Head) -> bool
-    ensures { result ≡ matches w (valueless h).row }
-{
-    match w {
-        Which::Nothing => false,
-        Which::Everything => true,
-        Which::Ground => false,
-        Which::Elements(i) => (h.sort == 1) & (h.index == i),
-        Which::Attributes(j) => (h.sort == 2) & (h.index == j),
-        Which::Serial(k) => (h.sort == 1) & (h.serial == k as usize),
-    }
-}
-
-// Whether they are all below the ground: the documents.
-fn is_ground(w: Which) -> bool
-    ensures { result ≡ names_ground w }
-{
-    match w {
-        Which::Nothing => false,
-        Which::Everything => false,
-        Which::Ground => true,
-        Which::Elements(_) => false,
-        Which::Attributes(_) => false,
-        Which::Serial(_) => false,
-    }
-}
-
 // How many of `count` rows are some of them.
 fn matching(w: usize, rows: &[u8], count: usize, which: Which) -> usize
     requires { Width w × (row_size w * count ≤ length rows.now) × (count ≤ 4096) }
@@ -71,7 +43,7 @@ fn matching(w: usize, rows: &[u8], count: usize, which: Which) -> usize
     let mut found = 0;
     while 0 < m {
         let row = &t[..size];
-        found = more(found, matches(which, walk_writer::read_head(row)));
+        found = more(found, row_walk::matches(which, walk_writer::read_head(row)));
         t = &t[size..];
         m -= 1;
     }
@@ -84,77 +56,43 @@ fn places(w: usize, rows: &[u8], count: usize, above: Which) -> usize
     ensures { (result ≡ places_in above (read_many read_row (row_size w) count rows.now)) × (result ≤ 4097) }
 {
     let below = matching(w, rows, count, above);
-    more(below, is_ground(above))
+    more(below, above == Which::Ground)
 }
 
 // The rows of a filling, counted up to one past the ceiling.
-fn filling_rows<'a>(
-    version: usize,
-    w: usize,
-    n: usize,
-    defs: &'a [u8],
-    parts: &'a [u8],
-    a: usize,
-    attrs: &'a [u8],
-    what: Filling,
-    text: &[u8],
-) -> usize
-    requires { Indexed what × Width w × (length text.now ≤ w) × (a ≤ 64) × (n ≤ 64) }
-    ensures { (result ≡ counted_to (fill_with version w n defs.now parts.now a attrs.now what text.now 0)) × (result ≤ 4097) }
+fn filling_rows(form: &Form<'_>, what: Filling, text: &[u8]) -> usize
+    requires { Indexed what × Width form.now.width × (length text.now ≤ form.now.width) × (form.now.attribute_count ≤ 64)
+        × (form.now.definition_count ≤ 64) }
+    ensures { (result ≡ counted_to (fill_with form.now what text.now 0)) × (result ≤ 4097) }
 {
     let mut clipped = [0; 1];
-    let c = Cursor {
+    let mut c = Cursor {
         at: 0,
         left: ROWS_PAST_CEILING,
         serial: 0,
     };
-    let r = filling::put_filling(
-        version,
-        w,
-        n,
-        defs,
-        parts,
-        a,
-        attrs,
-        what,
-        text,
-        0,
-        c,
-        &mut clipped,
-    );
-    ROWS_PAST_CEILING - r.left
+    filling::put_filling(what, form, text, 0, &mut c, &mut clipped);
+    ROWS_PAST_CEILING - c.left
 }
 
-/// The most rows that the walk over `count` rows with a plan adds.
-pub fn most_added<'a>(
-    version: usize,
-    w: usize,
-    n: usize,
-    defs: &'a [u8],
-    parts: &'a [u8],
-    a: usize,
-    attrs: &'a [u8],
-    rows: &[u8],
-    count: usize,
-    plan: Plan,
-    text: &[u8],
-) -> Most
-    requires { Ready w n a text.now plan × WalkRows w count rows.now × (row_size w * count ≤ length rows.now) × (count ≤ 4096) }
+/// The most rows that the walk over `count` rows of a store with a form adds by a plan.
+pub fn most_added(form: &Form<'_>, rows: &[u8], count: usize, plan: Plan, text: &[u8]) -> Most
+    requires { Ready form.now text.now plan × WalkRows form.now.width count rows.now
+        × (row_size form.now.width * count ≤ length rows.now) × (count ≤ 4096) }
     ensures { Bounds
-        (walked plan text.now (plan_filling version w n defs.now parts.now a attrs.now plan text.now)
-        (at_first plan) (read_many read_row (row_size w) count rows.now))
-        (plan_filling version w n defs.now parts.now a attrs.now plan text.now 0)
+        (walked plan text.now (plan_filling form.now plan text.now) (at_first plan)
+        (read_many read_row (row_size form.now.width) count rows.now))
+        (plan_filling form.now plan text.now 0)
         count result }
 {
     if !plan.fills {
         return Most { one: 0, all: 0 };
     }
-    let what = plan.filling;
-    let one = filling_rows(version, w, n, defs, parts, a, attrs, what, text);
+    let one = filling_rows(form, plan.filling, text);
     if one == 0 {
         return Most { one: 0, all: 0 };
     }
     let above = plan.above;
-    let all = one * places(w, rows, count, above);
+    let all = one * places(form.width, rows, count, above);
     Most { one, all }
 }

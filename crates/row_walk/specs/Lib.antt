@@ -1,3 +1,3 @@
 pub mod Walk
-pub mod Lent
 pub mod Step
+pub mod Refilled

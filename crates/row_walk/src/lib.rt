@@ -2,16 +2,15 @@
 //! over the rows makes by it.
 #![tactic(auto)]
 
-ghost use Rattle.std.specs.Prelude.{◌≡◌, [], ◌+◌, ◌≤◌};
+ghost use Rattle.std.specs.Prelude.{◌≡◌, ◌+◌, ◌≤◌};
 ghost use Rattle.row_walk.specs.Walk.{matches, is_later, spared, shifted, moved_index, is_below_taken, closes, closed, is_below, is_taken, is_filled, after_taken, at_first};
-ghost use Rattle.row_walk.specs.Lent.{which_in, plan_in};
 ghost use Rattle.row_walk.specs.Step.{valueless, kept_with, ends_due, is_plain, Moves, Fair};
 
 use filling::Filling;
 
 /// Some rows: none; every row, and what stands above the documents; that alone; the elements of a definition; the rows
 /// of an attribute; the element with a serial.
-#[derive(Clone, Copy)]
+#[derive(Clone, Copy, PartialEq, Eq)]
 pub enum Which {
     Nothing,
     Everything,
@@ -77,42 +76,39 @@ pub struct Head {
     pub serial: usize,
 }
 
-// ---- A struct cannot be lent, and a plan that is passed by value is copied for each test. So it is lent as numbers:
-// of `above`, `takes` and `later` the variant and what it holds (0 and 1, 2 and 3, 4 and 5), `fills`, `keeps` and
-// `spares` (6 to 8, 1 if it is so), `set` (9), the fields of `definitions` and of `attributes` (10 to 12, 13 to 15),
-// the variant of the filling and what it holds (16 to 18). The marks are lent beside it to the tests that look at them.
+// ---- tests of one row
 
-// Whether a row is one of those of a variant with a number.
-fn matches(variant: usize, number: usize, h: Head) -> bool
-    ensures { result ≡ matches (which_in variant number) (valueless h).row }
+/// Whether a row is one of some rows.
+pub fn matches(w: Which, h: Head) -> bool
+    ensures { result ≡ matches w (valueless h).row }
 {
-    match variant {
-        0 => false,
-        1 => true,
-        2 => false,
-        3 => (h.sort == 1) & (h.index == number),
-        4 => (h.sort == 2) & (h.index == number),
-        _ => (h.sort == 1) & (h.serial == number),
+    match w {
+        Which::Nothing => false,
+        Which::Everything => true,
+        Which::Ground => false,
+        Which::Elements(i) => (h.sort == 1) & (h.index == i),
+        Which::Attributes(j) => (h.sort == 2) & (h.index == j),
+        Which::Serial(k) => (h.sort == 1) & (h.serial == k as usize),
     }
 }
 
 /// Whether a filling comes before a row.
-pub fn is_later(p: &[usize; 19], marks: &[u8], h: Head) -> bool
-    ensures { result ≡ is_later marks.now (plan_in p.now []).later (valueless h).row }
+pub fn is_later(plan: &Plan, h: Head) -> bool
+    ensures { result ≡ is_later plan.now.marks plan.now.later (valueless h).row }
 {
-    match p[4] {
-        0 => false,
-        1 => h.serial == p[5],
-        2 => !((h.sort == 2) & (h.index < p[5])),
-        _ => (h.sort == 1) & !(codec::byte(marks, h.index) == 1),
+    match plan.later {
+        Later::Never => false,
+        Later::Row(k) => h.serial == k as usize,
+        Later::Past(j) => !((h.sort == 2) & (h.index < j)),
+        Later::Unmarked => (h.sort == 1) & !(codec::byte(&plan.marks, h.index) == 1),
     }
 }
 
 // Whether a row is an element at the place, before which no filling comes.
-fn spared(p: &[usize; 19], marks: &[u8], h: Head) -> bool
-    ensures { result ≡ spared (plan_in p.now marks.now) (valueless h).row }
+fn spared(plan: &Plan, h: Head) -> bool
+    ensures { result ≡ spared plan.now (valueless h).row }
 {
-    (p[8] == 1) & ((h.sort == 1) & (codec::byte(marks, h.index) == 2))
+    plan.spares & ((h.sort == 1) & (codec::byte(&plan.marks, h.index) == 2))
 }
 
 // ---- renumbering
@@ -128,25 +124,15 @@ fn shifted(s: Shift, i: usize) -> usize
 }
 
 /// The index of a row after the change.
-pub fn moved_index(p: &[usize; 19], h: Head) -> usize
-    requires { Moves (plan_in p.now []).definitions × Moves (plan_in p.now []).attributes × Fair h }
-    ensures { (result ≡ moved_index (plan_in p.now []) (valueless h).row) × (result ≤ 2000) }
+pub fn moved_index(plan: &Plan, h: Head) -> usize
+    requires { Moves plan.now.definitions × Moves plan.now.attributes × Fair h }
+    ensures { (result ≡ moved_index plan.now (valueless h).row) × (result ≤ 2000) }
 {
     if h.sort == 1 {
-        let definitions = Shift {
-            from: p[10],
-            more: p[11],
-            less: p[12],
-        };
-        return shifted(definitions, h.index);
+        return shifted(plan.definitions, h.index);
     }
     if h.sort == 2 {
-        let attributes = Shift {
-            from: p[13],
-            more: p[14],
-            less: p[15],
-        };
-        return shifted(attributes, h.index);
+        return shifted(plan.attributes, h.index);
     }
     h.index
 }
@@ -196,42 +182,42 @@ pub fn is_below(o: Open, h: Head) -> bool
 }
 
 /// Whether a row is taken.
-pub fn is_taken(p: &[usize; 19], o: Open, h: Head) -> bool
+pub fn is_taken(plan: &Plan, o: Open, h: Head) -> bool
     requires { Fair h }
-    ensures { result ≡ is_taken (plan_in p.now []) o (valueless h) }
+    ensures { result ≡ is_taken plan.now o (valueless h) }
 {
-    let below = (p[0] == 1) | is_below(o, h);
-    (below & matches(p[2], p[3], h)) & !((p[7] == 1) & o.due)
+    let below = (plan.above == Which::Everything) | is_below(o, h);
+    (below & matches(plan.takes, h)) & !(plan.keeps & o.due)
 }
 
 /// Whether a filling comes right before a row.
-pub fn is_filled(p: &[usize; 19], marks: &[u8], o: Open, h: Head) -> bool
+pub fn is_filled(plan: &Plan, o: Open, h: Head) -> bool
     requires { Fair h }
-    ensures { result ≡ is_filled (plan_in p.now marks.now) o (valueless h) }
+    ensures { result ≡ is_filled plan.now o (valueless h) }
 {
-    (o.due & is_below(o, h)) & (is_later(p, marks, h) & !spared(p, marks, h))
+    (o.due & is_below(o, h)) & (is_later(plan, h) & !spared(plan, h))
 }
 
 // Whether what is due does not stay due after a row right below the open row.
-fn ends_due(p: &[usize; 19], marks: &[u8], o: Open, h: Head) -> bool
+fn ends_due(plan: &Plan, o: Open, h: Head) -> bool
     requires { Fair h }
-    ensures { result ≡ ends_due (plan_in p.now marks.now) o (valueless h) }
+    ensures { result ≡ ends_due plan.now o (valueless h) }
 {
     if o.due & is_below(o, h) {
-        return is_later(p, marks, h);
+        return is_later(plan, h);
     }
     false
 }
 
 /// Whether a row stays as it is, and nothing comes before it.
-pub fn is_plain(p: &[usize; 19], marks: &[u8], o: Open, h: Head) -> bool
-    requires { Moves (plan_in p.now []).definitions × Moves (plan_in p.now []).attributes × Fair h }
-    ensures { result ≡ is_plain (plan_in p.now marks.now) o (valueless h) }
+pub fn is_plain(plan: &Plan, o: Open, h: Head) -> bool
+    requires { Moves plan.now.definitions × Moves plan.now.attributes × Fair h }
+    ensures { result ≡ is_plain plan.now o (valueless h) }
 {
     let q = closed(o, h);
-    let due = (closes(o, h) & o.due) | ends_due(p, marks, q, h);
-    let same = (moved_index(p, h) == h.index) & !(h.serial == p[9]);
-    (!gone(o, h) & !due) & (!is_taken(p, q, h) & same)
+    let due = (closes(o, h) & o.due) | ends_due(plan, q, h);
+    let same = (moved_index(plan, h) == h.index) & !(h.serial == plan.set as usize);
+    (!gone(o, h) & !due) & (!is_taken(plan, q, h) & same)
 }
 
 // ---- what is open after a row that is taken, after one that is kept, and before the first
@@ -248,15 +234,15 @@ pub fn taken(o: Open, h: Head) -> Open
 }
 
 /// `due`: what is due stays due after the row.
-pub fn kept(p: &[usize; 19], o: Open, h: Head, due: bool) -> Open
+pub fn kept(plan: &Plan, o: Open, h: Head, due: bool) -> Open
     requires { Fair h }
-    ensures { result ≡ kept_with (plan_in p.now []) due o (valueless h) }
+    ensures { result ≡ kept_with plan.now due o (valueless h) }
 {
-    if matches(p[0], p[1], h) {
+    if matches(plan.above, h) {
         return Open {
             taking: 0,
             below: h.depth + 2,
-            due: p[6] == 1,
+            due: plan.fills,
         };
     }
     Open {
@@ -266,14 +252,14 @@ pub fn kept(p: &[usize; 19], o: Open, h: Head, due: bool) -> Open
     }
 }
 
-pub fn at_first(p: &[usize; 19]) -> Open
-    ensures { result ≡ at_first (plan_in p.now []) }
+pub fn at_first(plan: &Plan) -> Open
+    ensures { result ≡ at_first plan.now }
 {
-    if p[0] == 2 {
+    if plan.above == Which::Ground {
         return Open {
             taking: 0,
             below: 1,
-            due: p[6] == 1,
+            due: plan.fills,
         };
     }
     Open {

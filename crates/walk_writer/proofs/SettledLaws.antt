@@ -4,30 +4,28 @@ use native.Mathlib.Omega.{arith}
 use mathlib.Core.Path.{◌≡◌, refl, sym, ◌∙◌}
 use mathlib.Core.Bool.{true, false, ◌&&◌}
 use mathlib.Core.List.{List, [], ◌∷◌, ◌++◌}
-use denote.Ref.{Bor}
 use Rattle.rules.specs.Bytes.{Bytes}
 use Rattle.rules.specs.Preorder.{Deep}
 use Rattle.rules.specs.Layout.{FlatRow}
-use Rattle.form_index.specs.Reading.{index_form}
+use Rattle.layout.specs.declared.Form.{Form}
 use Rattle.row_writer.specs.declared.Cursor.{Cursor}
 use Rattle.row_writer.specs.Written.{Written}
 use Rattle.filling.specs.declared.Filling.{Filling}
 use Rattle.filling.specs.declared.Filling.TheVariants.{Nothing}
-use Rattle.filling.specs.Parts.{value_in, members_read_at, defs_in, parts_in, attrs_in, width_in, count_in, version_of_filling, size_in}
+use Rattle.filling.specs.Parts.{index_form_in, values_in, members_read_at, fill_with}
 use Rattle.filling.proofs.DepthLaws.{filling_empty}
 use Rattle.row_walk.specs.declared.Plan.{Plan}
 use Rattle.row_walk.specs.declared.Open.{Open}
 use Rattle.row_walk.specs.Walk.{kept_row, is_below_taken, closes, closed, owed, row_depth, emitted, next_open, walked, at_first}
-use Rattle.plan_numbers.specs.Refilled.{refilled}
-use Rattle.walk_writer.specs.Step.{fill_lent, ReadyIn, Settled}
+use Rattle.row_walk.specs.Refilled.{refilled}
+use Rattle.walk_writer.specs.Step.{plan_filling, Ready, Settled}
 
 -- a filling of which no row was written where one might be has none
-pub settled_nothing : {ks : List ℕ} {fs : List (Bor Bytes)} {v : Bytes} (what : Filling) {w : ℕ} {out : Bytes} {r : Cursor} {out' : Bytes}
-    → Written w (fill_lent ks fs what v 0) (record { at = 0; left = 1; serial = 0 }) out r out' → (r.left ≡ 0 → ⊥) → Settled ks fs v what Nothing
-settled_nothing {ks} {fs} {v} what x n =
+pub settled_nothing : {F : Form} {v : Bytes} (what : Filling) {w : ℕ} {out : Bytes} {r : Cursor} {out' : Bytes}
+    → Written w (fill_with F what v 0) (record { at = 0; left = 1; serial = 0 }) out r out' → (r.left ≡ 0 → ⊥) → Settled F v what Nothing
+settled_nothing {F} {v} what x n =
     record {
-      same = filling_empty (index_form (version_of_filling ks) (width_in ks) (size_in ks) (defs_in fs) (parts_in fs) (attrs_in fs) (count_in ks)) (λ j. value_in (width_in ks) (attrs_in fs) j)
-          (λ k e. members_read_at (parts_in fs) k e) what v 0 (omega (arith, x.left, n));
+      same = filling_empty (index_form_in F) (λ j. values_in F j) (λ k e. members_read_at F.particles.now k e) what v 0 (omega (arith, x.left, n));
       indexed = tt;
     }
 
@@ -41,8 +39,8 @@ module _ (p : Plan) (what : Filling) (v : Bytes) (fill : ℕ → List (Deep Flat
     | false ↦ owed (closes o x && o.due) (fill (row_depth o)) ++ (emitted p v fill (closed o x) x ++ walked_refilled (next_open p v fill (closed o x) x) xs i)
   ]
 
-module _ {ks : List ℕ} {fs : List (Bor Bytes)} {v : Bytes} (p : Plan) {what : Filling} (s : Settled ks fs v p.filling what) where
-  pub ready_settled : ReadyIn ks v p → ReadyIn ks v (refilled p what)
+module _ {F : Form} {v : Bytes} (p : Plan) {what : Filling} (s : Settled F v p.filling what) where
+  pub ready_settled : Ready F v p → Ready F v (refilled p what)
   ready_settled x =
       record {
         width = x.width;
@@ -53,5 +51,5 @@ module _ {ks : List ℕ} {fs : List (Bor Bytes)} {v : Bytes} (p : Plan) {what : 
         filling = s.indexed;
       }
 
-  pub walked_settled : (xs : List (Deep FlatRow)) → walked p v (fill_lent ks fs p.filling v) (at_first p) xs ≡ walked (refilled p what) v (fill_lent ks fs what v) (at_first (refilled p what)) xs
-  walked_settled xs = sym (walked_refilled p what v (fill_lent ks fs what v) (at_first p) xs ∙ (λ i. walked p v (λ d. s.same d i) (at_first p) xs))
+  pub walked_settled : (xs : List (Deep FlatRow)) → walked p v (plan_filling F p v) (at_first p) xs ≡ walked (refilled p what) v (fill_with F what v) (at_first (refilled p what)) xs
+  walked_settled xs = sym (walked_refilled p what v (fill_with F what v) (at_first p) xs ∙ (λ i. walked p v (λ d. s.same d i) (at_first p) xs))

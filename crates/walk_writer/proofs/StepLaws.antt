@@ -14,6 +14,7 @@ use Rattle.layout.specs.RowBytes.{reindexed_row, valued_row}
 use Rattle.row_writer.specs.Written.{Written, Room}
 use Rattle.row_writer.proofs.WrittenLaws.{written_none, written_then, written_as}
 use Rattle.filling.specs.Parts.{Asks}
+use Rattle.layout.specs.declared.Form.{Form}
 use Rattle.row_walk.specs.declared.Which.{Which}
 use Rattle.row_walk.specs.declared.Which.TheVariants.{Nothing, Everything, Ground, Elements, Attributes, Serial}
 use Rattle.row_walk.specs.declared.Later.{Later}
@@ -21,7 +22,6 @@ use Rattle.row_walk.specs.declared.Later.TheVariants.{Never, Row, Past, Unmarked
 use Rattle.row_walk.specs.declared.Plan.{Plan}
 use Rattle.row_walk.specs.declared.Open.{Open}
 use Rattle.row_walk.specs.declared.Head.{Head}
-use Rattle.walk_writer.specs.declared.Stepped.{Stepped}
 use Rattle.row_walk.specs.Walk.{matches, is_everything, is_later, spared, moved_index, kept_row, is_below_taken, closes, closed, is_below, is_taken, is_filled}
 use Rattle.row_walk.specs.Walk.{after_taken, after_kept, owed, row_depth, emitted, next_open}
 use Rattle.row_walk.specs.Step.{row_of_head, valueless, stays_due, kept_with}
@@ -91,7 +91,7 @@ module _ {w : ℕ} {due : Bool} {c : Cursor} {out : Bytes} where
   owed_none xs e = written_as (ap (λ (b : Bool). owed b xs) e) written_none
 
 -- what the filling asks, and what it writes
-pub asks_of : {w n a : ℕ} {txt : Bytes} {p : Plan} {c : Cursor} {d : ℕ} → Ready w n a txt p → Room w c → d ≤ 81 → Asks w c txt a n d
+pub asks_of : {F : Form} {txt : Bytes} {p : Plan} {c : Cursor} {d : ℕ} → Ready F txt p → Room F.width c → d ≤ 81 → Asks F c txt F.definition_count d
 asks_of r m h = record { width = r.width; room = m; text = r.text; attributes = r.attributes; deep = omega (arith, r.definitions) }
 
 -- ---- a row that is kept
@@ -132,18 +132,18 @@ module _ {w : ℕ} (p : Plan) (v : Bytes) (fill : ℕ → List (Deep FlatRow)) (
     is_taken_lem = ap (is_taken p o) (sym s.is) ∙ taken_any p o h (read_row row).row.value ∙ sym e
 
     pub came_taken : {c : Cursor} {out : Bytes} → b ≡ true → (t : Open) → t ≡ after_taken o (valueless h)
-        → Came w (emitted p v fill o (read_row row)) (next_open p v fill o (read_row row)) c out (record { cursor = c; opened = t }) out
+        → Came w (emitted p v fill o (read_row row)) (next_open p v fill o (read_row row)) c out c t out
     unfolding emitted next_open
     came_taken q t g =
         record {
           written = written_as (ap (λ (z : Bool). elim z [ true ↦ [] | false ↦ owed (is_filled p o (read_row row)) (fill (read_row row).depth) ++ kept_row p v (read_row row) ∷ [] ])
               (is_taken_lem ∙ q)) written_none;
-          opened = g ∙ ap (after_taken o) s.is ∙ ap (λ (z : Bool). elim z [ true ↦ after_taken o (read_row row) | false ↦ after_kept p o (read_row row) ]) (sym (is_taken_lem ∙ q));
+          opens = g ∙ ap (after_taken o) s.is ∙ ap (λ (z : Bool). elim z [ true ↦ after_taken o (read_row row) | false ↦ after_kept p o (read_row row) ]) (sym (is_taken_lem ∙ q));
         }
 
     pub came_kept : {c d r : Cursor} {out out₁ out' : Bytes} → b ≡ false → (f : Bool) → f ≡ is_filled p o (valueless h) → Written w (owed f (fill h.depth)) c out d out₁
         → Written w (kept_row p v (read_row row) ∷ []) d out₁ r out' → (k : Open) → k ≡ after_kept p o (valueless h)
-        → Came w (emitted p v fill o (read_row row)) (next_open p v fill o (read_row row)) c out (record { cursor = r; opened = k }) out'
+        → Came w (emitted p v fill o (read_row row)) (next_open p v fill o (read_row row)) c out r k out'
     unfolding emitted next_open
     came_kept q f ef w₁ w₂ k g =
         let filled : is_filled p o (read_row row) ≡ f = ap (is_filled p o) (sym s.is) ∙ filled_any p o h (read_row row).row.value ∙ sym ef in
@@ -154,7 +154,7 @@ module _ {w : ℕ} (p : Plan) (v : Bytes) (fill : ℕ → List (Deep FlatRow)) (
               (ap (λ (z : Bool). elim z [ true ↦ [] | false ↦ owed (is_filled p o (read_row row)) (fill (read_row row).depth) ++ kept_row p v (read_row row) ∷ [] ]) (is_taken_lem ∙ q)
               ∙ ap₂ (λ (z : Bool) (d : ℕ). owed z (fill d) ++ kept_row p v (read_row row) ∷ []) filled deep)
               (written_then w₁ w₂);
-          opened = g ∙ sym (kept_any p o h (read_row row).row.value) ∙ ap (after_kept p o) s.is
+          opens = g ∙ sym (kept_any p o h (read_row row).row.value) ∙ ap (after_kept p o) s.is
               ∙ ap (λ (z : Bool). elim z [ true ↦ after_taken o (read_row row) | false ↦ after_kept p o (read_row row) ])
               (sym (is_taken_lem ∙ q));
         }
@@ -162,7 +162,7 @@ module _ {w : ℕ} (p : Plan) (v : Bytes) (fill : ℕ → List (Deep FlatRow)) (
     -- nothing is due right below
     pub came_still : {c r : Cursor} {out out' : Bytes} → b ≡ false → (o.due && is_below o (valueless h)) ≡ false
         → Written w (kept_row p v (read_row row) ∷ []) c out r out' → (k : Open) → k ≡ after_kept p o (valueless h)
-        → Came w (emitted p v fill o (read_row row)) (next_open p v fill o (read_row row)) c out (record { cursor = r; opened = k }) out'
+        → Came w (emitted p v fill o (read_row row)) (next_open p v fill o (read_row row)) c out r k out'
     came_still q n x k g =
         let none : false ≡ is_filled p o (valueless h) = sym (ap (λ (z : Bool). z && (is_later p.marks p.later (valueless h).row && not (spared p (valueless h).row))) n) in
         came_kept q false none (owed_none (fill h.depth) refl) x k g
@@ -171,19 +171,19 @@ module _ {w : ℕ} (p : Plan) (v : Bytes) (fill : ℕ → List (Deep FlatRow)) (
     is_gone : is_below_taken o (read_row row) ≡ g
     is_gone = ap (is_below_taken o) (sym s.is) ∙ sym e
 
-    pub step_gone : {c : Cursor} {out : Bytes} → g ≡ true → Came w (step_rows p v fill o (read_row row)) (step_open p v fill o (read_row row)) c out (record { cursor = c; opened = o }) out
+    pub step_gone : {c : Cursor} {out : Bytes} → g ≡ true → Came w (step_rows p v fill o (read_row row)) (step_open p v fill o (read_row row)) c out c o out
     unfolding step_rows step_open
     step_gone q =
         record {
           written = written_as (ap
               (λ (z : Bool). elim z [ true ↦ [] | false ↦ owed (closes o (read_row row) && o.due) (fill (row_depth o)) ++ emitted p v fill (closed o (read_row row)) (read_row row) ])
               (is_gone ∙ q)) written_none;
-          opened = ap (λ (z : Bool). elim z [ true ↦ o | false ↦ next_open p v fill (closed o (read_row row)) (read_row row) ]) (sym (is_gone ∙ q));
+          opens = ap (λ (z : Bool). elim z [ true ↦ o | false ↦ next_open p v fill (closed o (read_row row)) (read_row row) ]) (sym (is_gone ∙ q));
         }
 
-    pub step_on : {c d : Cursor} {r : Stepped} {out out₁ out' : Bytes} → g ≡ false → (z : Bool) → z ≡ closes o (valueless h) → (k : ℕ) → k ≡ o.below - 1 → (u : Open) → u ≡ closed o (valueless h)
+    pub step_on : {c d r : Cursor} {y' : Open} {out out₁ out' : Bytes} → g ≡ false → (z : Bool) → z ≡ closes o (valueless h) → (k : ℕ) → k ≡ o.below - 1 → (u : Open) → u ≡ closed o (valueless h)
         → Written w (owed (z && o.due) (fill k)) c out d out₁
-        → Came w (emitted p v fill u (read_row row)) (next_open p v fill u (read_row row)) d out₁ r out' → Came w (step_rows p v fill o (read_row row)) (step_open p v fill o (read_row row)) c out r out'
+        → Came w (emitted p v fill u (read_row row)) (next_open p v fill u (read_row row)) d out₁ r y' out' → Came w (step_rows p v fill o (read_row row)) (step_open p v fill o (read_row row)) c out r y' out'
     unfolding step_rows step_open
     step_on q z ez k ek u eu x m =
         let closing : closes o (read_row row) ≡ z = ap (closes o) (sym s.is) ∙ sym ez in
@@ -195,7 +195,7 @@ module _ {w : ℕ} (p : Plan) (v : Bytes) (fill : ℕ → List (Deep FlatRow)) (
               ∙ ap₂ (λ (b : Bool) (y : Open). owed (b && o.due) (fill (row_depth o)) ++ emitted p v fill y (read_row row)) closing after
               ∙ ap (λ (i : ℕ). owed (z && o.due) (fill i) ++ emitted p v fill u (read_row row)) (sym ek))
               (written_then x m.written);
-          opened = m.opened ∙ ap (λ (y : Open). next_open p v fill y (read_row row)) (sym after) ∙ ap
+          opens = m.opens ∙ ap (λ (y : Open). next_open p v fill y (read_row row)) (sym after) ∙ ap
               (λ (b : Bool). elim b [ true ↦ o | false ↦ next_open p v fill (closed o (read_row row)) (read_row row) ]) (sym (is_gone ∙ q));
         }
 

@@ -21,9 +21,7 @@ use Rattle.row_writer.proofs.WrittenLaws.{written_stop, written_then, written_as
 use Rattle.row_writer.proofs.BlockLaws.{size_split, block_small}
 use Rattle.row_walk.specs.declared.Plan.{Plan}
 use Rattle.row_walk.specs.declared.Open.{Open}
-use Rattle.walk_writer.specs.declared.Stepped.{Stepped}
-use Rattle.walk_writer.specs.declared.PlainRun.{PlainRun}
-use Rattle.walk_writer.specs.declared.Passed.{Passed}
+use Rattle.walk_writer.specs.declared.Run.{Run}
 use Rattle.row_walk.specs.Walk.{is_below_taken, closes, closed, owed, row_depth, emitted, next_open, walked, at_first, names_ground}
 use Rattle.walk_writer.specs.Step.{step_rows, step_open, Came, Near, WalkRow, WalkRows, PlainRows, WalkOn, Advances}
 use Rattle.walk_writer.proofs.StepLaws.{near_if, near_step}
@@ -126,14 +124,14 @@ module _ {w : ℕ} {p : Plan} {v : Bytes} {fill : ℕ → List (Deep FlatRow)} w
     pub going_stop : at.left ≡ 0 → Written w whole c out at out'
     going_stop e = g.goes at out' (written_stop e)
 
-    pub going_step : 0 < m → {s : Stepped} {out₁ : Bytes} → Came w (step_rows p v fill o (read_row (take (row_size w) t))) (step_open p v fill o (read_row (take (row_size w) t))) at out' s out₁
-        → WalkOn w p v fill whole c out (drop (row_size w) t) (m - 1) s.cursor s.opened out₁
+    pub going_step : 0 < m → {r : Cursor} {o₁ : Open} {out₁ : Bytes} → Came w (step_rows p v fill o (read_row (take (row_size w) t))) (step_open p v fill o (read_row (take (row_size w) t))) at out' r o₁ out₁
+        → WalkOn w p v fill whole c out (drop (row_size w) t) (m - 1) r o₁ out₁
     going_step h y =
         record {
-          goes = λ r out'' z. g.goes r out''
+          goes = λ r' out'' z. g.goes r' out''
               (written_as (after ∙ ap (λ (u : Open). step_rows p v fill o (read_row (take (row_size w) t)) ++ walked p v fill u (read_many read_row (row_size w) (m - 1) (drop (row_size w) t)))
-              (sym y.opened)) (written_then y.written z));
-          near = rw y.opened (near_step p v fill o (read_row (take (row_size w) t)) g.near (rows_first w m t h g.rows).depth);
+              (sym y.opens)) (written_then y.written z));
+          near = rw y.opens (near_step p v fill o (read_row (take (row_size w) t)) g.near (rows_first w m t h g.rows).depth);
           room = y.written.room g.room;
           rows = rows_rest w m t h g.rows;
           size = omega (arith, g.size, length-drop (row_size w) t, size_more (row_size w) m (λ e. omega arith));
@@ -144,24 +142,24 @@ module _ {w : ℕ} {p : Plan} {v : Bytes} {fill : ℕ → List (Deep FlatRow)} w
             (step_open p v fill o (read_row (take (row_size w) t))) (read_many read_row (row_size w) (m - 1) (drop (row_size w) t))
         after = ap (walked p v fill o) (rows_step w m t h) ∙ walked_cons p v fill o (read_row (take (row_size w) t)) (read_many read_row (row_size w) (m - 1) (drop (row_size w) t))
 
-    module _ {s : Passed} {out₁ : Bytes} (x : Advances w p v fill t m o at out' s out₁) {size k : ℕ} (es : size ≡ row_size w) (ek : k ≡ size * s.rows) where
-      bytes_passed : k ≡ row_size w * s.rows
-      bytes_passed = ek ∙ ap (λ (i : ℕ). i * s.rows) es
+    module _ {r : Cursor} {s : Run} {out₁ : Bytes} (x : Advances w p v fill t m o at out' r s out₁) {size k : ℕ} (es : size ≡ row_size w) (ek : k ≡ size * s.count) where
+      bytes_passed : k ≡ row_size w * s.count
+      bytes_passed = ek ∙ ap (λ (i : ℕ). i * s.count) es
 
       -- the bytes of the rows that were passed are there
       pub pass_long : k ≤ length t
-      pass_long = omega (arith, bytes_passed, g.size, size_split (row_size w) s.rows m x.few)
+      pass_long = omega (arith, bytes_passed, g.size, size_split (row_size w) s.count m x.few)
 
       -- .. and few
       pub pass_small : k < 4611686018427387904
       pass_small = omega (arith, bytes_passed, block_small g.room x.within)
 
       -- some rows further
-      pub going_pass : WalkOn w p v fill whole c out (take (length t - k) (drop k t)) (m - s.rows) s.cursor s.opened out₁
+      pub going_pass : WalkOn w p v fill whole c out (take (length t - k) (drop k t)) (m - s.count) r s.opened out₁
       going_pass =
           let on = x.going in
-          let there : WalkOn w p v fill whole c out (drop (row_size w * s.rows) t) (m - s.rows) s.cursor s.opened out₁ =
-          record { goes = λ r out'' z. g.goes r out'' (on.goes r out'' z); near = on.near; room = on.room; rows = on.rows; size = on.size; long = on.long ∙ g.long } in
+          let there : WalkOn w p v fill whole c out (drop (row_size w * s.count) t) (m - s.count) r s.opened out₁ =
+          record { goes = λ r' out'' z. g.goes r' out'' (on.goes r' out'' z); near = on.near; room = on.room; rows = on.rows; size = on.size; long = on.long ∙ g.long } in
           rw (tail_seen t k, bytes_passed) there
 
     pub going_end : m ≡ 0 → (k : ℕ) → k ≡ o.below - 1 → {r : Cursor} {out'' : Bytes} → Written w (owed o.due (fill k)) at out' r out'' → Written w whole c out r out''
@@ -169,7 +167,7 @@ module _ {w : ℕ} {p : Plan} {v : Bytes} {fill : ℕ → List (Deep FlatRow)} w
         g.goes r out'' (written_as (ap (λ (n : ℕ). walked p v fill o (read_many read_row (row_size w) n t)) e ∙ walked_none p v fill o ∙ ap (λ (n : ℕ). owed o.due (fill n)) (sym ek)) x)
 
 -- ---- a block, and the row after it
-module _ {w : ℕ} {p : Plan} {v : Bytes} {fill : ℕ → List (Deep FlatRow)} {t : Bytes} {m most : ℕ} {o : Open} {c at : Cursor} {out out₁ : Bytes} {run : PlainRun}
+module _ {w : ℕ} {p : Plan} {v : Bytes} {fill : ℕ → List (Deep FlatRow)} {t : Bytes} {m most : ℕ} {o : Open} {c at : Cursor} {out out₁ : Bytes} {run : Run}
     (b : PlainRows w p t most o run) (x : WalkRows w m t) (h : row_size w * m ≤ length t) (r : Room w c) (l : most ≤ m)
     (y : Written w (read_many read_row (row_size w) run.count t) c out at out₁) where
   -- after the block
@@ -187,22 +185,16 @@ module _ {w : ℕ} {p : Plan} {v : Bytes} {fill : ℕ → List (Deep FlatRow)} {
       }
 
   -- all that may be written stay as they are
-  pub passes_block : 0 < most → most ≤ c.left → run.count ≡ most → Advances w p v fill t m o c out (record { cursor = at; opened = run.opened; rows = most }) out₁
-  passes_block s z e =
-      record {
-        further = s;
-        few = l;
-        within = z;
-        going = going_as (ap (λ (i : ℕ). drop (row_size w * i) t) e) (ap (λ (i : ℕ). m - i) e) going_block;
-      }
+  pub passes_block : 0 < most → most ≤ c.left → run.count ≡ most → Advances w p v fill t m o c out at run out₁
+  passes_block s z e = record { further = omega (arith, e); few = omega (arith, l, e); within = omega (arith, z, e); going = going_block }
 
   -- the row after the block
   pub passes_row : most ≤ c.left → (run.count ≡ most → ⊥) → {size start : ℕ} {row : Bytes} → size ≡ row_size w → start ≡ size * run.count → row ≡ take size (drop start t)
-      → {s : Stepped} {out₂ : Bytes} → Came w (step_rows p v fill run.opened (read_row row)) (step_open p v fill run.opened (read_row row)) at out₁ s out₂
-      → Advances w p v fill t m o c out (record { cursor = s.cursor; opened = s.opened; rows = run.count + 1 }) out₂
-  passes_row z e es ea er {s} {out₂} q =
+      → {r₂ : Cursor} {o₂ : Open} {out₂ : Bytes} → Came w (step_rows p v fill run.opened (read_row row)) (step_open p v fill run.opened (read_row row)) at out₁ r₂ o₂ out₂
+      → Advances w p v fill t m o c out r₂ (record { count = run.count + 1; opened = o₂ }) out₂
+  passes_row z e es ea er {r₂} {o₂} {out₂} q =
       let is = row_after w run.count t es ea er in
-      let came = subst (λ (i : Bytes). Came w (step_rows p v fill run.opened (read_row i)) (step_open p v fill run.opened (read_row i)) at out₁ s out₂) is q in
+      let came = subst (λ (i : Bytes). Came w (step_rows p v fill run.opened (read_row i)) (step_open p v fill run.opened (read_row i)) at out₁ r₂ o₂ out₂) is q in
       let long : row_size w * run.count + row_size w ≡ row_size w * (run.count + 1) = sym (ap (λ (i : ℕ). row_size w * i) (add-one run.count) ∙ mul-suc (row_size w) run.count) in
       let rest : m - run.count - 1 ≡ m - (run.count + 1) = omega arith in
       record {

@@ -1,26 +1,22 @@
 -- One step of the walk: what comes of a row, and what the walk asks of the store.
 use Rattle.std.specs.Prelude.{ℕ, zero, suc, ◌*◌, ◌-◌, ◌<◌, ◌≤◌, ◌≡◌, Bool, true, false, ◌&&◌, List, [], ◌++◌, length, take, drop}
-use Rattle.std.specs.Borrow.{Bor}
 use Rattle.rules.specs.Bytes.{Bytes}
 use Rattle.rules.specs.Preorder.{Deep}
 use Rattle.rules.specs.Layout.{FlatRow, row_size}
 use Rattle.rules.specs.Decode.{read_row, read_many}
-use Rattle.form_index.specs.Reading.{index_form}
 use Rattle.layout.specs.Bodies.{Width}
+use Rattle.layout.specs.declared.Form.{Form}
 use Rattle.layout.specs.RowBytes.{valued_row}
 use Rattle.row_writer.specs.declared.Cursor.{Cursor}
 use Rattle.row_writer.specs.Written.{Written, Room, OldRow}
 use Rattle.filling.specs.declared.Filling.{Filling}
-use Rattle.filling.specs.Fillings.{filling_rows}
-use Rattle.filling.specs.Parts.{value_in, members_read_at, defs_in, parts_in, attrs_in, width_in, count_in, version_of_filling, size_in, Indexed}
+use Rattle.filling.specs.Parts.{fill_with, Indexed}
 use Rattle.row_walk.specs.declared.Plan.{Plan}
 use Rattle.row_walk.specs.declared.Open.{Open}
 use Rattle.row_walk.specs.declared.Head.{Head}
 use Rattle.row_walk.specs.Walk.{is_below_taken, closes, closed, owed, row_depth, emitted, next_open, walked}
 use Rattle.row_walk.specs.Step.{row_of_head, Planned, Fair}
-use Rattle.walk_writer.specs.declared.Stepped.{Stepped}
-use Rattle.walk_writer.specs.declared.PlainRun.{PlainRun}
-use Rattle.walk_writer.specs.declared.Passed.{Passed}
+use Rattle.walk_writer.specs.declared.Run.{Run}
 
 -- an old row with another index, and with another value if b
 abbrev pub row_rewritten : Bool → ℕ → Bytes → Bytes → Deep FlatRow
@@ -35,41 +31,28 @@ module _ (p : Plan) (v : Bytes) (fill : ℕ → List (Deep FlatRow)) where
   step_open o x = elim (is_below_taken o x) [ true ↦ o | false ↦ next_open p v fill (closed o x) x ]
 
 -- the rows xs were written, and o is open after them
-pub record Came (w : ℕ) (xs : List (Deep FlatRow)) (o : Open) (c : Cursor) (out : Bytes) (r : Stepped) (out' : Bytes) : Type 0 where
-  pub written : Written w xs c out r.cursor out'
-  pub opened : r.opened ≡ o
+pub record Came (w : ℕ) (xs : List (Deep FlatRow)) (o : Open) (c : Cursor) (out : Bytes) (r : Cursor) (opened : Open) (out' : Bytes) : Type 0 where
+  pub written : Written w xs c out r out'
+  pub opens : opened ≡ o
 
--- a filling at a depth, from the bytes of the form; that of a plan; and both of a form that is lent
-abbrev pub fill_with : ℕ → ℕ → ℕ → Bytes → Bytes → ℕ → Bytes → Filling → Bytes → ℕ → List (Deep FlatRow)
-fill_with version w n defs parts a attrs what text d = filling_rows (index_form version w n defs parts attrs a) (λ j. value_in w attrs j) (λ k e. members_read_at parts k e) what text d
-
-abbrev pub plan_filling : ℕ → ℕ → ℕ → Bytes → Bytes → ℕ → Bytes → Plan → Bytes → ℕ → List (Deep FlatRow)
-plan_filling version w n defs parts a attrs p text d = fill_with version w n defs parts a attrs p.filling text d
-
-abbrev pub fill_lent : List ℕ → List (Bor Bytes) → Filling → Bytes → ℕ → List (Deep FlatRow)
-fill_lent ks fs what text d = fill_with (version_of_filling ks) (width_in ks) (size_in ks) (defs_in fs) (parts_in fs) (count_in ks) (attrs_in fs) what text d
-
-abbrev pub fill_in : List ℕ → List (Bor Bytes) → Plan → Bytes → ℕ → List (Deep FlatRow)
-fill_in ks fs p text d = fill_lent ks fs p.filling text d
+-- the filling of a plan at a depth
+abbrev pub plan_filling : Form → Plan → Bytes → ℕ → List (Deep FlatRow)
+plan_filling F p text d = fill_with F p.filling text d
 
 -- a filling that may stand for another: at each depth it has the same rows
-pub record Settled (ks : List ℕ) (fs : List (Bor Bytes)) (text : Bytes) (what settled : Filling) : Type 0 where
-  pub same : (d : ℕ) → fill_lent ks fs settled text d ≡ fill_lent ks fs what text d
+pub record Settled (F : Form) (text : Bytes) (what settled : Filling) : Type 0 where
+  pub same : (d : ℕ) → fill_with F settled text d ≡ fill_with F what text d
   pub indexed : Indexed settled
 
 -- ---- how large the numbers are that the walk meets
 -- the form, the plan and the text of a call
-pub record Ready (w n a : ℕ) (txt : Bytes) (p : Plan) : Type 0 where
-  pub width : Width w
-  pub definitions : n ≤ 64
-  pub attributes : a ≤ 64
-  pub text : length txt ≤ w
+pub record Ready (F : Form) (txt : Bytes) (p : Plan) : Type 0 where
+  pub width : Width F.width
+  pub definitions : F.definition_count ≤ 64
+  pub attributes : F.attribute_count ≤ 64
+  pub text : length txt ≤ F.width
   pub plan : Planned p
   pub filling : Indexed p.filling
-
--- .. where they are lent
-abbrev pub ReadyIn : List ℕ → Bytes → Plan → Type 0
-ReadyIn ks txt p = Ready (width_in ks) (size_in ks) (count_in ks) txt p
 
 pub record Near (o : Open) : Type 0 where
   pub below : o.below ≤ 82
@@ -94,7 +77,7 @@ WalkRows w (suc count) bs = WalkRow w (take (row_size w) bs) × WalkRows w count
 -- ---- some rows
 -- The first rows of `most`, with o open before them, stay as they are, whatever the value and the filling; and what is
 -- open after them.
-pub record PlainRows (w : ℕ) (p : Plan) (rows : Bytes) (most : ℕ) (o : Open) (r : PlainRun) : Type 0 where
+pub record PlainRows (w : ℕ) (p : Plan) (rows : Bytes) (most : ℕ) (o : Open) (r : Run) : Type 0 where
   pub few : r.count ≤ most
   pub near : Near r.opened
   pub same : (v : Bytes) (fill : ℕ → List (Deep FlatRow)) (xs : List (Deep FlatRow)) → walked p v fill o (read_many read_row (row_size w) r.count rows ++ xs)
@@ -112,8 +95,8 @@ pub record WalkOn (w : ℕ) (p : Plan) (v : Bytes) (fill : ℕ → List (Deep Fl
   pub long : length out' ≡ length out
 
 -- what comes of the first rows of m was written, of at least one and of no more than may be written
-pub record Advances (w : ℕ) (p : Plan) (v : Bytes) (fill : ℕ → List (Deep FlatRow)) (t : Bytes) (m : ℕ) (o : Open) (c : Cursor) (out : Bytes) (r : Passed) (out' : Bytes) : Type 0 where
-  pub further : 0 < r.rows
-  pub few : r.rows ≤ m
-  pub within : r.rows ≤ c.left
-  pub going : WalkOn w p v fill (walked p v fill o (read_many read_row (row_size w) m t)) c out (drop (row_size w * r.rows) t) (m - r.rows) r.cursor r.opened out'
+pub record Advances (w : ℕ) (p : Plan) (v : Bytes) (fill : ℕ → List (Deep FlatRow)) (t : Bytes) (m : ℕ) (o : Open) (c : Cursor) (out : Bytes) (at : Cursor) (r : Run) (out' : Bytes) : Type 0 where
+  pub further : 0 < r.count
+  pub few : r.count ≤ m
+  pub within : r.count ≤ c.left
+  pub going : WalkOn w p v fill (walked p v fill o (read_many read_row (row_size w) m t)) c out (drop (row_size w * r.count) t) (m - r.count) at r.opened out'

@@ -7,36 +7,30 @@ ghost use Rattle.rules.specs.Layout.{row_size};
 ghost use Rattle.rules.specs.Decode.{read_row, read_many};
 ghost use Rattle.layout.specs.Bodies.{Width};
 ghost use Rattle.row_writer.specs.Written.{Written, Room, OldRow};
-ghost use Rattle.filling.specs.Parts.{width_in, count_in, size_in, Asks, Indexed};
-ghost use Rattle.row_walk.specs.Walk.{is_taken, owed, emitted, next_open, walked, at_first};
-ghost use Rattle.row_walk.specs.Lent.{plan_in};
+ghost use Rattle.filling.specs.Parts.{fill_with, Asks, Indexed};
+ghost use Rattle.row_walk.specs.Walk.{is_taken, owed, walked, at_first};
 ghost use Rattle.row_walk.specs.Step.{row_of_head, valueless, Planned};
-ghost use Rattle.walk_writer.specs.Step.{row_rewritten, step_rows, step_open, Came, plan_filling, fill_in, Settled, Ready, ReadyIn, Near, WalkRow, Seen, WalkRows, PlainRows, Advances};
+ghost use Rattle.walk_writer.specs.Step.{row_rewritten, Came, plan_filling, Settled, Ready, Near, WalkRow, Seen, WalkRows, PlainRows, Advances};
+ghost use Rattle.walk_writer.specs.Going.{ReadyBy, fill_by, come_rows, come_open, goes_rows, goes_open};
 
 use filling::Filling;
+use layout::Form;
 use row_walk::{Head, Open, Plan};
 use row_writer::Cursor;
 
-/// What has been written after a row, and what is open.
+/// How many rows have been passed, and what is open after them.
 #[derive(Clone, Copy)]
-pub struct Stepped {
-    pub cursor: Cursor,
-    pub opened: Open,
-}
-
-/// How many rows stay as they are, and what is open after them.
-#[derive(Clone, Copy)]
-pub struct PlainRun {
+pub struct Run {
     pub count: usize,
     pub opened: Open,
 }
 
-/// What has been written after some rows, what is open, and how many rows they were.
+// What a walk goes by: the form of the store, the plan, and the value of the call.
 #[derive(Clone, Copy)]
-pub struct Passed {
-    pub cursor: Cursor,
-    pub opened: Open,
-    pub rows: usize,
+struct Walker<'a> {
+    form: &'a Form<'a>,
+    plan: &'a Plan,
+    text: &'a [u8],
 }
 
 // ---- rows
@@ -60,11 +54,11 @@ fn put_row(
     valued: bool,
     text: &[u8],
     row: &[u8],
-    c: Cursor,
+    c: &mut Cursor,
     out: &mut [u8],
-) -> Cursor
-    requires { Width w × (index ≤ 2000) × (length text.now ≤ w) × OldRow w row.now × Room w c }
-    ensures { Written w (row_rewritten valued index text.now row.now ∷ []) c out.old result out.new }
+)
+    requires { Width w × (index ≤ 2000) × (length text.now ≤ w) × OldRow w row.now × Room w c.old }
+    ensures { Written w (row_rewritten valued index text.now row.now ∷ []) c.old out.old c.new out.new }
 {
     if valued {
         return row_writer::put_valued(w, row, index, text, c, out);
@@ -72,169 +66,31 @@ fn put_row(
     row_writer::put_kept(w, row, index, c, out)
 }
 
-// ---- The walk. As in `filling`, the form is lent as one array of slices (definitions, particles, attributes) and one
-// of numbers (the width of a value, the number of attributes, the version, the number of definitions).
+// ---- the walk
 
 // The filling that the walk goes with: nothing, if that of the plan has no rows, so that the members of a group are not
 // gone through again at each place. It is written up to its first row, into a buffer of one byte.
-fn filling_with_rows(form: &[&[u8]; 3], sizes: &[usize; 4], what: Filling, text: &[u8]) -> Filling
-    requires { Indexed what × Asks (width_in sizes.now) (record { at = 0; left = 1; serial = 0 }) text.now (count_in sizes.now) (size_in sizes.now) 0 }
-    ensures { Settled sizes.now form.now text.now what result }
+fn filling_with_rows(form: &Form<'_>, what: Filling, text: &[u8]) -> Filling
+    requires { Indexed what × Asks form.now (record { at = 0; left = 1; serial = 0 }) text.now form.now.definition_count 0 }
+    ensures { Settled form.now text.now what result }
 {
     let mut clipped = [0; 1];
-    let mut c = [0, 1, 0];
-    filling::put_any(what, form, &text, sizes, sizes[3], 0, &mut c, &mut clipped);
-    if c[1] == 0 {
+    let mut c = Cursor {
+        at: 0,
+        left: 1,
+        serial: 0,
+    };
+    filling::put_filling(what, form, text, 0, &mut c, &mut clipped);
+    if c.left == 0 {
         return what;
     }
     Filling::Nothing
 }
 
-// The filling at a depth, if it is due.
-fn put_owed(
-    form: &[&[u8]; 3],
-    sizes: &[usize; 4],
-    p: &[usize; 19],
-    text: &[u8],
-    due: bool,
-    depth: usize,
-    c: Cursor,
-    out: &mut [u8],
-) -> Cursor
-    requires { Indexed (plan_in p.now []).filling × Asks (width_in sizes.now) c text.now (count_in sizes.now) (size_in sizes.now) depth }
-    ensures { Written (width_in sizes.now)
-        (owed due (fill_in sizes.now form.now (plan_in p.now []) text.now depth)) c out.old result
-        out.new }
-{
-    if due {
-        let what = plan_numbers::filling_of(p);
-        let mut r = [c.at, c.left, c.serial];
-        filling::put_any(what, form, &text, sizes, sizes[3], depth, &mut r, out);
-        return Cursor {
-            at: r[0],
-            left: r[1],
-            serial: r[2],
-        };
-    }
-    c
-}
-
-// What comes of a row that is not taken, where a filling may come right before it.
-fn come_due(
-    form: &[&[u8]; 3],
-    sizes: &[usize; 4],
-    p: &[usize; 19],
-    marks: &[u8],
-    text: &[u8],
-    h: Head,
-    row: &[u8],
-    o: Open,
-    c: Cursor,
-    out: &mut [u8],
-) -> Stepped
-    requires { ReadyIn sizes.now text.now (plan_in p.now marks.now) × Seen (width_in sizes.now) h row.now × Room (width_in sizes.now) c
-        × (is_taken (plan_in p.now marks.now) o (valueless h) ≡ false) }
-    ensures { Came (width_in sizes.now)
-        (emitted (plan_in p.now marks.now) text.now
-        (fill_in sizes.now form.now (plan_in p.now marks.now) text.now) o (read_row row.now))
-        (next_open (plan_in p.now marks.now) text.now
-        (fill_in sizes.now form.now (plan_in p.now marks.now) text.now) o (read_row row.now))
-        c out.old result out.new }
-{
-    let filled = row_walk::is_filled(p, marks, o, h);
-    let at = put_owed(form, sizes, p, text, filled, h.depth, c, out);
-    let index = row_walk::moved_index(p, h);
-    let next = put_row(sizes[0], index, h.serial == p[9], text, row, at, out);
-    let due = o.due & !(row_walk::is_below(o, h) & row_walk::is_later(p, marks, h));
-    Stepped {
-        cursor: next,
-        opened: row_walk::kept(p, o, h, due),
-    }
-}
-
-// What comes of a row, where what it closes is closed.
-fn come(
-    form: &[&[u8]; 3],
-    sizes: &[usize; 4],
-    p: &[usize; 19],
-    marks: &[u8],
-    text: &[u8],
-    h: Head,
-    row: &[u8],
-    o: Open,
-    c: Cursor,
-    out: &mut [u8],
-) -> Stepped
-    requires { ReadyIn sizes.now text.now (plan_in p.now marks.now) × Seen (width_in sizes.now) h row.now × Room (width_in sizes.now) c }
-    ensures { Came (width_in sizes.now)
-        (emitted (plan_in p.now marks.now) text.now
-        (fill_in sizes.now form.now (plan_in p.now marks.now) text.now) o (read_row row.now))
-        (next_open (plan_in p.now marks.now) text.now
-        (fill_in sizes.now form.now (plan_in p.now marks.now) text.now) o (read_row row.now))
-        c out.old result out.new }
-{
-    if row_walk::is_taken(p, o, h) {
-        return Stepped {
-            cursor: c,
-            opened: row_walk::taken(o, h),
-        };
-    }
-    if o.due & row_walk::is_below(o, h) {
-        return come_due(form, sizes, p, marks, text, h, row, o, c, out);
-    }
-    let index = row_walk::moved_index(p, h);
-    let next = put_row(sizes[0], index, h.serial == p[9], text, row, c, out);
-    Stepped {
-        cursor: next,
-        opened: row_walk::kept(p, o, h, o.due),
-    }
-}
-
-// One row.
-fn step(
-    form: &[&[u8]; 3],
-    sizes: &[usize; 4],
-    p: &[usize; 19],
-    marks: &[u8],
-    text: &[u8],
-    row: &[u8],
-    o: Open,
-    c: Cursor,
-    out: &mut [u8],
-) -> Stepped
-    requires { ReadyIn sizes.now text.now (plan_in p.now marks.now) × WalkRow (width_in sizes.now) row.now × Near o × Room (width_in sizes.now) c }
-    ensures { Came (width_in sizes.now)
-        (step_rows (plan_in p.now marks.now) text.now
-        (fill_in sizes.now form.now (plan_in p.now marks.now) text.now) o (read_row row.now))
-        (step_open (plan_in p.now marks.now) text.now
-        (fill_in sizes.now form.now (plan_in p.now marks.now) text.now) o (read_row row.now))
-        c out.old result out.new }
-{
-    let h = read_head(row);
-    if row_walk::gone(o, h) {
-        return Stepped {
-            cursor: c,
-            opened: o,
-        };
-    }
-    let due = row_walk::closes(o, h) & o.due;
-    let depth = layout::minus(o.below, 1);
-    let at = put_owed(form, sizes, p, text, due, depth, c, out);
-    let q = row_walk::closed(o, h);
-    come(form, sizes, p, marks, text, h, row, q, at, out)
-}
-
 // How many of the first rows of `most` stay as they are.
-fn plain_rows(
-    w: usize,
-    p: &[usize; 19],
-    marks: &[u8],
-    rows: &[u8],
-    most: usize,
-    o: Open,
-) -> PlainRun
-    requires { Width w × Planned (plan_in p.now []) × WalkRows w most rows.now × (row_size w * most ≤ length rows.now) × Near o }
-    ensures { PlainRows w (plan_in p.now marks.now) rows.now most o result }
+fn plain_rows(w: usize, plan: &Plan, rows: &[u8], most: usize, o: Open) -> Run
+    requires { Width w × Planned plan.now × WalkRows w most rows.now × (row_size w * most ≤ length rows.now) × Near o }
+    ensures { PlainRows w plan.now rows.now most o result }
 {
     let size = layout::row_size(w);
     let mut t = rows;
@@ -243,129 +99,161 @@ fn plain_rows(
     while 0 < m {
         let row = &t[..size];
         let h = read_head(row);
-        if !row_walk::is_plain(p, marks, q, h) {
-            return PlainRun {
+        if !row_walk::is_plain(plan, q, h) {
+            return Run {
                 count: most - m,
                 opened: q,
             };
         }
         let u = row_walk::closed(q, h);
-        q = row_walk::kept(p, u, h, u.due);
+        q = row_walk::kept(plan, u, h, u.due);
         t = &t[size..];
         m -= 1;
     }
-    PlainRun {
+    Run {
         count: most,
         opened: q,
     }
 }
 
-// The rows that stay as they are, as one block, and the row after them; no more rows than may be written.
-fn pass(
-    form: &[&[u8]; 3],
-    sizes: &[usize; 4],
-    p: &[usize; 19],
-    marks: &[u8],
-    text: &[u8],
-    rows: &[u8],
-    count: usize,
-    o: Open,
-    c: Cursor,
-    out: &mut [u8],
-) -> Passed
-    requires { ReadyIn sizes.now text.now (plan_in p.now marks.now) × WalkRows (width_in sizes.now) count rows.now
-        × (row_size (width_in sizes.now) * count ≤ length rows.now) × Near o × Room (width_in sizes.now) c × (0 < count) × (0 < c.left) }
-    ensures { Advances (width_in sizes.now) (plan_in p.now marks.now) text.now
-        (fill_in sizes.now form.now (plan_in p.now marks.now) text.now) rows.now count o c out.old result out.new }
-{
-    let most = count - layout::minus(count, c.left);
-    let run = plain_rows(sizes[0], p, marks, rows, most, o);
-    let q = run.opened;
-    let at = row_writer::put_block(sizes[0], rows, run.count, c, out);
-    if run.count == most {
-        return Passed {
-            cursor: at,
-            opened: q,
-            rows: most,
-        };
-    }
-    let size = layout::row_size(sizes[0]);
-    let row = layout::window(rows, size * run.count, size);
-    let s = step(form, sizes, p, marks, text, row, q, at, out);
-    let cursor = s.cursor;
-    let opened = s.opened;
-    Passed {
-        cursor,
-        opened,
-        rows: run.count + 1,
-    }
-}
-
-// The walk over `count` rows. It stops where no row may be written any more.
-fn walk_lent(
-    form: &[&[u8]; 3],
-    sizes: &[usize; 4],
-    p: &[usize; 19],
-    marks: &[u8],
-    rows: &[u8],
-    count: usize,
-    text: &[u8],
-    c: Cursor,
-    out: &mut [u8],
-) -> Cursor
-    requires { ReadyIn sizes.now text.now (plan_in p.now marks.now) × WalkRows (width_in sizes.now) count rows.now
-        × (row_size (width_in sizes.now) * count ≤ length rows.now) × Room (width_in sizes.now) c }
-    ensures { Written (width_in sizes.now)
-        (walked (plan_in p.now marks.now) text.now
-        (fill_in sizes.now form.now (plan_in p.now marks.now) text.now)
-        (at_first (plan_in p.now marks.now)) (read_many read_row (row_size (width_in sizes.now)) count rows.now))
-        c out.old result out.new }
-{
-    let size = layout::row_size(sizes[0]);
-    let mut t = rows;
-    let mut m = count;
-    let mut at = c;
-    let mut o = row_walk::at_first(p);
-    while 0 < m {
-        if at.left == 0 {
-            return at;
+impl Walker<'_> {
+    // The filling at a depth, if it is due.
+    fn put_owed(&self, due: bool, depth: usize, c: &mut Cursor, out: &mut [u8])
+        requires { Indexed self.now.plan.now.filling
+            × Asks self.now.form.now c.old self.now.text.now self.now.form.now.definition_count depth }
+        ensures { Written self.now.form.now.width (owed due (fill_by self.now depth)) c.old out.old c.new out.new }
+    {
+        if due {
+            filling::put_filling(self.plan.filling, self.form, self.text, depth, c, out);
         }
-        let s = pass(form, sizes, p, marks, text, t, m, o, at, out);
-        at = s.cursor;
-        o = s.opened;
-        let long = size * s.rows;
-        t = &t[long..];
-        m -= s.rows;
     }
-    let depth = layout::minus(o.below, 1);
-    put_owed(form, sizes, p, text, o.due, depth, at, out)
+
+    // What is open after a row that is not taken, where a filling may come right before it.
+    fn come_due(&self, h: Head, row: &[u8], o: Open, c: &mut Cursor, out: &mut [u8]) -> Open
+        requires { ReadyBy self.now × Seen self.now.form.now.width h row.now × Room self.now.form.now.width c.old
+            × (is_taken self.now.plan.now o (valueless h) ≡ false) }
+        ensures { Came self.now.form.now.width (come_rows self.now o (read_row row.now)) (come_open self.now o (read_row row.now))
+            c.old out.old c.new result out.new }
+    {
+        let filled = row_walk::is_filled(self.plan, o, h);
+        self.put_owed(filled, h.depth, c, out);
+        let index = row_walk::moved_index(self.plan, h);
+        let valued = h.serial == self.plan.set as usize;
+        put_row(self.form.width, index, valued, self.text, row, c, out);
+        let due = o.due & !(row_walk::is_below(o, h) & row_walk::is_later(self.plan, h));
+        row_walk::kept(self.plan, o, h, due)
+    }
+
+    // What is open after a row, where what it closes is closed.
+    fn come(&self, h: Head, row: &[u8], o: Open, c: &mut Cursor, out: &mut [u8]) -> Open
+        requires { ReadyBy self.now × Seen self.now.form.now.width h row.now × Room self.now.form.now.width c.old }
+        ensures { Came self.now.form.now.width (come_rows self.now o (read_row row.now)) (come_open self.now o (read_row row.now))
+            c.old out.old c.new result out.new }
+    {
+        if row_walk::is_taken(self.plan, o, h) {
+            return row_walk::taken(o, h);
+        }
+        if o.due & row_walk::is_below(o, h) {
+            return self.come_due(h, row, o, c, out);
+        }
+        let index = row_walk::moved_index(self.plan, h);
+        let valued = h.serial == self.plan.set as usize;
+        put_row(self.form.width, index, valued, self.text, row, c, out);
+        row_walk::kept(self.plan, o, h, o.due)
+    }
+
+    // What is open after one row.
+    fn step(&self, row: &[u8], o: Open, c: &mut Cursor, out: &mut [u8]) -> Open
+        requires { ReadyBy self.now × WalkRow self.now.form.now.width row.now × Near o × Room self.now.form.now.width c.old }
+        ensures { Came self.now.form.now.width (goes_rows self.now o (read_row row.now)) (goes_open self.now o (read_row row.now))
+            c.old out.old c.new result out.new }
+    {
+        let h = read_head(row);
+        if row_walk::gone(o, h) {
+            return o;
+        }
+        let due = row_walk::closes(o, h) & o.due;
+        let depth = layout::minus(o.below, 1);
+        self.put_owed(due, depth, c, out);
+        let q = row_walk::closed(o, h);
+        self.come(h, row, q, c, out)
+    }
+
+    // The rows that stay as they are, as one block, and the row after them; no more rows than may be written.
+    fn pass(&self, rows: &[u8], count: usize, o: Open, c: &mut Cursor, out: &mut [u8]) -> Run
+        requires { ReadyBy self.now × WalkRows self.now.form.now.width count rows.now
+            × (row_size self.now.form.now.width * count ≤ length rows.now) × Near o × Room self.now.form.now.width c.old
+            × (0 < count) × (0 < c.old.left) }
+        ensures { Advances self.now.form.now.width self.now.plan.now self.now.text.now (fill_by self.now) rows.now count o
+            c.old out.old c.new result out.new }
+    {
+        let w = self.form.width;
+        let most = count - layout::minus(count, c.left);
+        let run = plain_rows(w, self.plan, rows, most, o);
+        row_writer::put_block(w, rows, run.count, c, out);
+        if run.count == most {
+            return run;
+        }
+        let size = layout::row_size(w);
+        let row = layout::window(rows, size * run.count, size);
+        let opened = self.step(row, run.opened, c, out);
+        Run {
+            count: run.count + 1,
+            opened,
+        }
+    }
+
+    // The walk over `count` rows. It stops where no row may be written any more.
+    fn over(&self, rows: &[u8], count: usize, c: &mut Cursor, out: &mut [u8])
+        requires { ReadyBy self.now × WalkRows self.now.form.now.width count rows.now
+            × (row_size self.now.form.now.width * count ≤ length rows.now) × Room self.now.form.now.width c.old }
+        ensures { Written self.now.form.now.width
+            (walked self.now.plan.now self.now.text.now (fill_by self.now) (at_first self.now.plan.now)
+            (read_many read_row (row_size self.now.form.now.width) count rows.now))
+            c.old out.old c.new out.new }
+    {
+        let size = layout::row_size(self.form.width);
+        let mut t = rows;
+        let mut m = count;
+        let mut o = row_walk::at_first(self.plan);
+        while 0 < m {
+            if c.left == 0 {
+                return;
+            }
+            let run = self.pass(t, m, o, c, out);
+            o = run.opened;
+            let long = size * run.count;
+            t = &t[long..];
+            m -= run.count;
+        }
+        let depth = layout::minus(o.below, 1);
+        self.put_owed(o.due, depth, c, out)
+    }
 }
 
-/// The walk over `count` rows: n definitions, a attributes.
-pub fn walk<'a>(
-    version: usize,
-    w: usize,
-    n: usize,
-    defs: &'a [u8],
-    parts: &'a [u8],
-    a: usize,
-    attrs: &'a [u8],
+/// The walk over `count` rows of a store with a form.
+pub fn walk(
+    form: &Form<'_>,
     rows: &[u8],
     count: usize,
     plan: Plan,
     text: &[u8],
-    c: Cursor,
+    c: &mut Cursor,
     out: &mut [u8],
-) -> Cursor
-    requires { Ready w n a text.now plan × WalkRows w count rows.now × (row_size w * count ≤ length rows.now) × Room w c }
-    ensures { Written w
-        (walked plan text.now (plan_filling version w n defs.now parts.now a attrs.now plan text.now)
-        (at_first plan) (read_many read_row (row_size w) count rows.now))
-        c out.old result out.new }
+)
+    requires { Ready form.now text.now plan × WalkRows form.now.width count rows.now
+        × (row_size form.now.width * count ≤ length rows.now) × Room form.now.width c.old }
+    ensures { Written form.now.width
+        (walked plan text.now (plan_filling form.now plan text.now) (at_first plan)
+        (read_many read_row (row_size form.now.width) count rows.now))
+        c.old out.old c.new out.new }
 {
-    let form = [defs, parts, attrs];
-    let sizes = [w, a, version, n];
-    let what = filling_with_rows(&form, &sizes, plan.filling, text);
-    let p = plan_numbers::plan_numbers(plan, what);
-    walk_lent(&form, &sizes, &p, &plan.marks, rows, count, text, c, out)
+    let filling = filling_with_rows(form, plan.filling, text);
+    let settled = Plan { filling, ..plan };
+    let walker = Walker {
+        form,
+        plan: &settled,
+        text,
+    };
+    walker.over(rows, count, c, out)
 }

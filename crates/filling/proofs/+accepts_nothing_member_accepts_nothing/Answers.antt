@@ -6,11 +6,10 @@
 -- gives the answer of no members (`unsettled_over`, `unsettled_ends`). In a group there are fewer particles, so the
 -- cycle ends.
 use native.Mathlib.Omega.{arith}
-use borrow.Author.Rules.{rules}
 use lib.ListN.{length, drop, length-take, length-drop}
-use Rattle.filling.proofs.FillingLaws.{Unsettled, unsettled_starts, unsettled_ends, unsettled_over, unsettled_past, unsettled_here, unsettled_by}
+use Rattle.filling.proofs.FillingLaws.{unsettled_starts, unsettled_ends, unsettled_over, unsettled_past, unsettled_here, unsettled_by}
 use Rattle.filling.proofs.FillingLaws.{unsettled_on, absent_skips, absent_element, absent_list, absent_choice}
-use Prim.Native.Nat.{ℕ, ◌<◌, ◌+◌, ◌-◌, ◌*◌}
+use Prim.Native.Nat.{◌-◌}
 use Rattle.rules.specs.Layout.{particle_size}
 use Rattle.filling.proofs.+accepts_nothing_member_accepts_nothing.Goals as goal
 

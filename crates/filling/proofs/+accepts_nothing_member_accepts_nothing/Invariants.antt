@@ -1,10 +1,6 @@
-use native.Mathlib.Omega.{arith}
-use borrow.Author.Rules.{rules}
-use lib.ListN.{length, drop, length-take, length-drop}
-use Rattle.filling.proofs.FillingLaws.{Unsettled, unsettled_starts, unsettled_ends, unsettled_over, unsettled_past, unsettled_here, unsettled_by}
-use Rattle.filling.proofs.FillingLaws.{unsettled_on, absent_skips, absent_element, absent_list, absent_choice}
-use Prim.Native.Nat.{ℕ, ◌<◌, ◌+◌, ◌-◌, ◌*◌}
-use Rattle.rules.specs.Layout.{particle_size}
+use lib.ListN.{length}
+use Rattle.filling.proofs.FillingLaws.{Unsettled}
+use Prim.Native.Nat.{◌+◌, ◌*◌}
 use Rattle.filling.proofs.+accepts_nothing_member_accepts_nothing.Given as goal
 
 abbrev pub decreases-accepts_nothing : goal.decreases-accepts_nothing

@@ -10,33 +10,29 @@
 -- (`member_group`). With each call falls the height or, at one height, the bytes of particles (`rank_height`,
 -- `rank_part`, `rank_particles`).
 use mathlib.Core.Path.{refl, sym, ◌∙◌}
-use mathlib.Core.Logic.{⊎_elim}
 use mathlib.Core.Bool.{false}
 use lib.ListN.{take, drop, length-take, length-drop, length}
 use Rattle.rules.specs.declared.GroupKind.TheVariants.{Sequence}
-use Rattle.row_writer.proofs.WrittenLaws.{written_stop, written_room, written_long}
-use Rattle.filling.specs.Parts.{defs_in, parts_in, attrs_in, width_in, count_in, version_of_filling, cursor_in}
-use Rattle.filling.proofs.FillingLaws.{Rest, rest_starts, rest_past, rest_here, rest_on, rest_first, rest_over, rest_ends, member_skips, member_element}
+use Rattle.row_writer.proofs.WrittenLaws.{written_stop, written_room}
+use Rattle.filling.proofs.FillingLaws.{rest_starts, rest_past, rest_here, rest_on, rest_first, rest_over, rest_ends, member_skips, member_element}
 use Rattle.filling.proofs.FillingLaws.{member_empty, member_nothing_lem, member_group, definition_low, definition_written, below_none, below_text, below_group}
-use Rattle.filling.proofs.FillingLaws.{none_written, one_written, same_written, index_small, top, rank, rank_particles, rank_part, rank_height}
+use Rattle.filling.proofs.FillingLaws.{none_written, one_written, same_written, index_small, rank_particles, rank_part, rank_height}
 use Rattle.filling.proofs.FillingLaws.{part_short, below_nothing, filled_list, filled_choice}
 use Rattle.filling.proofs.NeededLaws.{no_element_filled}
-use borrow.Author.Rules.{rules}
 use native.Mathlib.Omega.{arith}
-use Prim.Native.Nat.{ℕ, ◌<◌, ◌+◌, ◌-◌, ◌*◌}
+use Prim.Native.Nat.{◌<◌, ◌+◌, ◌-◌, ◌*◌}
 use Rattle.rules.specs.Layout.{particle_size}
 use Rattle.filling.proofs.+put_below_put_definition_put_group_put_member.Goals as goal
 use Rattle.filling.proofs.+put_below_put_definition_put_group_put_member.Goals.{put_member-in-Sequence, put_member-in-Choice+else-accepts_nothing}
 
-pub put_below-put_row-requires : goal.put_below-put_row-requires
-put_below-put_row-requires t c =
+pub put_below-put_new-requires : goal.put_below-put_new-requires
+put_below-put_new-requires t c =
     let q = c.requires.1 in (q.width, q.room, omega (arith, q.deep), omega arith, q.text)
 
 pub put_below-returns-then-needs_no_element : goal.put_below-returns-then-needs_no_element
 put_below-returns-then-needs_no_element t c =
     let a = c.args in
-    below_nothing (version_of_filling a.sizes.now) (width_in a.sizes.now) (defs_in a.form.now) (parts_in a.form.now) (attrs_in a.form.now)
-    (count_in a.sizes.now) a.text.now.now a.h a.depth a.i _ c.kind_of-k.ensures _ (omega arith) (omega arith)
+    below_nothing a.form.now a.text.now a.h a.depth a.i _ c.kind_of-k.ensures _ (omega arith) (omega arith)
     c.model_part-s.ensures (no_element_filled Sequence 0 _ (sym c.needs_no_element.ensures ∙ c.if-needs_no_element.true))
 
 pub put_below-put_group-requires : goal.put_below-put_group-requires
@@ -44,38 +40,34 @@ put_below-put_group-requires t c =
     let a = c.args in
     let q = c.requires.1 in
     let short =
-    part_short (defs_in a.form.now) (parts_in a.form.now) a.i c.model_part-s.result.now c.model_part-s.ensures in
+    part_short a.form.now.definitions.now a.form.now.particles.now a.i c.model_part-s.result.now c.model_part-s.ensures in
     (omega (arith, rank_part a.h (length c.model_part-s.result.now) (omega arith)), (omega arith, q))
 
 pub put_below-returns-in-0 : goal.put_below-returns-in-0
 put_below-returns-in-0 t c =
     let a = c.args in
-    below_none (version_of_filling a.sizes.now) (width_in a.sizes.now) (defs_in a.form.now) (parts_in a.form.now) (attrs_in a.form.now)
-    (count_in a.sizes.now) a.text.now.now a.h a.depth a.i _ c.kind_of-k.ensures (omega arith)
+    below_none a.form.now a.text.now a.h a.depth a.i _ c.kind_of-k.ensures (omega arith)
 
 pub put_below-returns-in-1 : goal.put_below-returns-in-1
 put_below-returns-in-1 t c =
-    let put-row = c.put_row in
+    let put-row = c.put_new in
     let kind-of = c.kind_of-k in
     let a = c.args in
-    below_text (version_of_filling a.sizes.now) (width_in a.sizes.now) (defs_in a.form.now) (parts_in a.form.now) (attrs_in a.form.now)
-    (count_in a.sizes.now) a.text.now.now a.h a.depth a.i _ kind-of.ensures (omega arith) put-row.ensures
+    below_text a.form.now a.text.now a.h a.depth a.i _ kind-of.ensures (omega arith) put-row.ensures
 
 pub put_below-returns-else-needs_no_element : goal.put_below-returns-else-needs_no_element
 put_below-returns-else-needs_no_element t c =
     let a = c.args in
-    below_group (version_of_filling a.sizes.now) (width_in a.sizes.now) (defs_in a.form.now) (parts_in a.form.now) (attrs_in a.form.now)
-    (count_in a.sizes.now) a.text.now.now a.h a.depth a.i _ c.kind_of-k.ensures _ (omega arith) (omega arith)
+    below_group a.form.now a.text.now a.h a.depth a.i _ c.kind_of-k.ensures _ (omega arith) (omega arith)
     c.model_part-s.ensures c.put_group.ensures
 
 pub put_definition-returns-then-h-eq0 : goal.put_definition-returns-then-h-eq0
 put_definition-returns-then-h-eq0 t c =
     let a = c.args in
-    definition_low (version_of_filling a.sizes.now) (width_in a.sizes.now) (defs_in a.form.now) (parts_in a.form.now) (attrs_in a.form.now)
-    (count_in a.sizes.now) a.text.now.now a.h a.depth a.i (omega arith)
+    definition_low a.form.now a.text.now a.h a.depth a.i (omega arith)
 
-pub put_definition-put_row-requires : goal.put_definition-put_row-requires
-put_definition-put_row-requires t c =
+pub put_definition-put_new-requires : goal.put_definition-put_new-requires
+put_definition-put_new-requires t c =
     let q = c.requires.1 in (q.width, q.room, omega (arith, q.deep), omega arith, omega arith)
 
 pub put_definition-overflow_add-depth : goal.put_definition-overflow_add-depth
@@ -85,7 +77,7 @@ put_definition-overflow_add-depth t c =
 
 pub put_definition-put_required-requires : goal.put_definition-put_required-requires
 put_definition-put_required-requires t c =
-    let q = c.requires.1 in (q.width, written_room c.put_row.ensures q.room, q.attributes, omega (arith, q.deep))
+    let q = c.requires.1 in (q.width, written_room c.put_new.ensures q.room, q.attributes, omega (arith, q.deep))
 
 pub put_definition-overflow_sub-h : goal.put_definition-overflow_sub-h
 put_definition-overflow_sub-h t c = omega arith
@@ -106,7 +98,7 @@ put_definition-put_below-requires t c =
         record {
           width = q.width;
           room = written_room c.put_required.ensures
-              (written_room c.put_row.ensures
+              (written_room c.put_new.ensures
               q.room);
           text = q.text;
           attributes = q.attributes;
@@ -119,9 +111,8 @@ pub put_definition-returns : goal.put_definition-returns
 put_definition-returns t c =
     let a =
     c.args in
-    definition_written (version_of_filling a.sizes.now) (width_in a.sizes.now) (defs_in a.form.now) (parts_in a.form.now) (attrs_in a.form.now)
-    (count_in a.sizes.now) a.text.now.now a.h a.depth a.i (λ e. omega arith)
-    c.put_row.ensures
+    definition_written a.form.now a.text.now a.h a.depth a.i (λ e. omega arith)
+    c.put_new.ensures
     c.put_required.ensures c.put_below.ensures
 
 pub put_group-loop-t-init : goal.put_group-loop-t-init
@@ -167,8 +158,7 @@ put_group-returns t c = rest_ends c.loop-t.invariant (omega arith)
 pub put_member-returns-then-skips : goal.put_member-returns-then-skips
 put_member-returns-then-skips t c =
     let a = c.args in
-    none_written (version_of_filling a.sizes.now) (width_in a.sizes.now) (defs_in a.form.now) (parts_in a.form.now) (attrs_in a.form.now)
-    (count_in a.sizes.now) a.text.now.now a.h a.depth _
+    none_written a.form.now a.text.now a.h a.depth _
     (member_skips a.d a.s.now _ c.read_particle-p.ensures _ c.skips.ensures c.if-skips.true)
 
 pub put_member-put_definition-requires : goal.put_member-put_definition-requires
@@ -182,16 +172,14 @@ put_member-put_definition-requires t c =
 pub put_member-returns-then-needs_no_element : goal.put_member-returns-then-needs_no_element
 put_member-returns-then-needs_no_element t c =
     let a = c.args in
-    none_written (version_of_filling a.sizes.now) (width_in a.sizes.now) (defs_in a.form.now) (parts_in a.form.now) (attrs_in a.form.now)
-    (count_in a.sizes.now) a.text.now.now a.h a.depth _
+    none_written a.form.now a.text.now a.h a.depth _
     (member_empty a.d a.s.now _ c.read_particle-p.ensures _ c.skips.ensures c.if-skips.false _ _
     c.in-Group.is _ refl (no_element_filled _ (a.d + 1) _ (sym c.needs_no_element.ensures ∙ c.if-needs_no_element.true)))
 
 pub put_member-returns-then-accepts_nothing : goal.put_member-returns-then-accepts_nothing
 put_member-returns-then-accepts_nothing t c =
     let a = c.args in
-    none_written (version_of_filling a.sizes.now) (width_in a.sizes.now) (defs_in a.form.now) (parts_in a.form.now) (attrs_in a.form.now)
-    (count_in a.sizes.now) a.text.now.now a.h a.depth _
+    none_written a.form.now a.text.now a.h a.depth _
     (member_nothing_lem a.d a.s.now _ c.read_particle-p.ensures _ c.skips.ensures c.if-skips.false _ _
     c.in-Group.is _ refl _ (filled_choice _ _ c.in-Choice.is c.accepts_nothing.ensures) c.if-accepts_nothing.true)
 
@@ -210,8 +198,7 @@ put_member-put_group-requires t c =
 pub put_member-returns-in-Element : goal.put_member-returns-in-Element
 put_member-returns-in-Element t c =
     let a = c.args in
-    one_written (version_of_filling a.sizes.now) (width_in a.sizes.now) (defs_in a.form.now) (parts_in a.form.now) (attrs_in a.form.now)
-    (count_in a.sizes.now) a.text.now.now a.h a.depth _ _
+    one_written a.form.now a.text.now a.h a.depth _ _
     (member_element a.d a.s.now _ c.read_particle-p.ensures _ c.skips.ensures c.if-skips.false _
     c.in-Element.is)
     c.put_definition.ensures
@@ -220,8 +207,7 @@ put_member-returns-in-Element t c =
 pub put_member-returns-after-k : goal.put_member-returns-after-k
 put_member-returns-after-k t c =
     let a = c.args in
-    same_written (version_of_filling a.sizes.now) (width_in a.sizes.now) (defs_in a.form.now) (parts_in a.form.now) (attrs_in a.form.now)
-    (count_in a.sizes.now) a.text.now.now a.h a.depth _ _
+    same_written a.form.now a.text.now a.h a.depth _ _
     (elim c.match-k.branch [
       | put_member-in-Sequence w ↦ member_group a.d a.s.now _ c.read_particle-p.ensures _ c.skips.ensures c.if-skips.false _ _
           c.in-Group.is _ refl false (filled_list _ _ w.in-Sequence.is) refl

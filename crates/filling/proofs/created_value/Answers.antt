@@ -1,7 +1,6 @@
 -- `filling::created_value` meets its contract: the record, sort and value that are read are those of attribute j, so
 -- that the result is `value_in` and no longer than w (`created_told` of FillingLaws).
 use Rattle.filling.proofs.FillingLaws.{created_told}
-use borrow.Author.Rules.{rules}
 use Rattle.filling.proofs.created_value.Goals as goal
 
 pub returns : goal.returns

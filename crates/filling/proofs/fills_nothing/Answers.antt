@@ -2,7 +2,6 @@
 -- (`filled_list` of FillingLaws), and a choice fills with nothing where it accepts nothing (`filled_choice`).
 use Rattle.model.specs.Members.{members_from}
 use Rattle.filling.proofs.FillingLaws.{filled_list, filled_choice}
-use borrow.Author.Rules.{rules}
 use Rattle.filling.proofs.fills_nothing.Goals as goal
 
 pub returns-in-Sequence : goal.returns-in-Sequence

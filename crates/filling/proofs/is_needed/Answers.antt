@@ -2,7 +2,6 @@
 -- (`needed_element` of NeededLaws), and a group is no element (`needed_group`).
 use native.Mathlib.Omega.{arith}
 use Rattle.filling.proofs.NeededLaws.{needed_element, needed_group}
-use borrow.Author.Rules.{rules}
 use Rattle.filling.proofs.is_needed.Goals as goal
 
 pub returns-in-0 : goal.returns-in-0

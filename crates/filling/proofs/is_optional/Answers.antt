@@ -2,7 +2,6 @@
 -- (`optional_code`, `optional_code_2` of FillingLaws) and of no other (`needed_code`).
 use native.Mathlib.Omega.{arith}
 use Rattle.filling.proofs.FillingLaws.{optional_code, optional_code_2, needed_code}
-use borrow.Author.Rules.{rules}
 use Rattle.filling.proofs.is_optional.Goals as goal
 
 pub returns-in-1 : goal.returns-in-1

@@ -1,11 +1,8 @@
 -- `filling::needs_no_element` meets its contract: a particle less deep than d ends the members (`no_element_over` of
 -- NeededLaws), an element that must be there settles it (`no_element_stop`), and any other keeps the invariant
 -- (`no_element_on`). Where no particle is left none must be there (`no_element_few`).
-use mathlib.Core.Path.{◌≡◌, refl, sym, ◌∙◌}
+use mathlib.Core.Path.{refl, sym, ◌∙◌}
 use native.Mathlib.Omega.{arith}
-use lib.ListN.{length}
-use borrow.Author.Rules.{rules}
-use Rattle.filling.specs.Parts.{no_element_needed}
 use Rattle.filling.proofs.NeededLaws.{no_element_few, no_element_over, no_element_stop, no_element_on}
 use Rattle.filling.proofs.needs_no_element.Goals as goal
 

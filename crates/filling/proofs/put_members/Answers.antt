@@ -2,26 +2,21 @@
 -- nothing is written (`group_empty`, `none_written` of FillingLaws), else it is the one that `put_group` writes
 -- (`group_full`, `same_written`).
 use Rattle.filling.specs.Fillings.{group_filled}
-use Rattle.filling.specs.Parts.{defs_in, parts_in, attrs_in, width_in, count_in, version_of_filling, members_read_at}
+use Rattle.filling.specs.Parts.{members_read_at}
 use Rattle.filling.proofs.FillingLaws.{none_written, same_written, group_empty, group_full}
-use borrow.Author.Rules.{rules}
 use Rattle.filling.proofs.put_members.Goals as goal
 
 pub returns-then-fills_nothing : goal.returns-then-fills_nothing
 returns-then-fills_nothing c =
     let a = c.args in
-    let s = a.sizes.now in
-    let f = a.form.now in
-    let filled = group_filled a.kind (members_read_at (parts_in f) a.first a.d) in
-    none_written (version_of_filling s) (width_in s) (defs_in f) (parts_in f) (attrs_in f) (count_in s) a.text.now.now a.h a.depth filled
-    (group_empty (parts_in f) _ a.first a.d c.particles_from-s.ensures a.kind _ c.fills_nothing.ensures c.if-fills_nothing.true)
+    let filled = group_filled a.kind (members_read_at a.form.now.particles.now a.first a.d) in
+    none_written a.form.now a.text.now a.h a.depth filled
+    (group_empty a.form.now.particles.now _ a.first a.d c.particles_from-s.ensures a.kind _ c.fills_nothing.ensures c.if-fills_nothing.true)
 
 pub returns : goal.returns
 returns c =
     let a = c.args in
-    let s = a.sizes.now in
-    let f = a.form.now in
-    let filled = group_filled a.kind (members_read_at (parts_in f) a.first a.d) in
-    same_written (version_of_filling s) (width_in s) (defs_in f) (parts_in f) (attrs_in f) (count_in s) a.text.now.now a.h a.depth filled _
-    (group_full (parts_in f) _ a.first a.d c.particles_from-s.ensures a.kind _ c.fills_nothing.ensures c.if-fills_nothing.false)
+    let filled = group_filled a.kind (members_read_at a.form.now.particles.now a.first a.d) in
+    same_written a.form.now a.text.now a.h a.depth filled _
+    (group_full a.form.now.particles.now _ a.first a.d c.particles_from-s.ensures a.kind _ c.fills_nothing.ensures c.if-fills_nothing.false)
     c.put_group.ensures

@@ -5,7 +5,6 @@ use native.Mathlib.Omega.{arith}
 use Rattle.lookup.specs.Bodies.{bodies_of}
 use Rattle.planned_rows.specs.Planned.{fill_of}
 use Rattle.planned_rows.proofs.FilledLaws.{sized_of, times_of, filled_past, places_are, places_within, new_small, filled_counted}
-use borrow.Author.Rules.{rules}
 use Rattle.planned_rows.proofs.filled_refusal.Goals as goal
 
 pub walk_rows-counted-requires : goal.walk_rows-counted-requires

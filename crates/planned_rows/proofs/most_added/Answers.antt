@@ -2,18 +2,15 @@
 -- `row_bound::most_added` may be called (`walk_ready`, `walk_asked`, `walk_whole`, `rows_few`), and the rows that it
 -- bounds are those after the plan (`rows_added`).
 use Rattle.planned_rows.proofs.WalkLaws.{reads_of, walk_ready, walk_asked, walk_whole, rows_few, rows_added}
-use borrow.Author.Rules.{rules}
 use Rattle.planned_rows.proofs.most_added.Goals as goal
 
 pub most_added-requires : goal.most_added-requires
 most_added-requires c =
     let q = c.requires.0 in
-    let x = reads_of c.shape_of-s.ensures c.definition_body-defs.ensures c.particle_body-parts.ensures
-    c.attribute_body-attrs.ensures c.row_body-rows.ensures in
+    let x = reads_of c.form_of-form.ensures c.rows_of-rows.ensures c.row_count-count.ensures in
     (walk_ready q x c.requires.1 c.requires.2, walk_asked q x, walk_whole q x, rows_few q x)
 
 pub returns : goal.returns
 returns c =
-    let x = reads_of c.shape_of-s.ensures c.definition_body-defs.ensures c.particle_body-parts.ensures
-    c.attribute_body-attrs.ensures c.row_body-rows.ensures in
+    let x = reads_of c.form_of-form.ensures c.rows_of-rows.ensures c.row_count-count.ensures in
     rows_added c.requires.0 x c.args.plan c.args.text.now c.most_added.ensures

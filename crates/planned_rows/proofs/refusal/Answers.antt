@@ -7,7 +7,6 @@ use Rattle.planned_rows.specs.Planned.{rows_after}
 use mathlib.Core.Path.{sym, ◌∙◌}
 use Rattle.store_limits.proofs.GivenLaws.{given_ok}
 use Rattle.planned_rows.proofs.RefusalLaws.{refusal_spared, refusal_counted}
-use borrow.Author.Rules.{rules}
 use Rattle.planned_rows.proofs.refusal.Goals as goal
 
 pub returns-then-is_ok : goal.returns-then-is_ok

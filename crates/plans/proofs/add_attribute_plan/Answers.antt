@@ -1,7 +1,8 @@
--- `plans::add_attribute_plan` meets its contract: the return is `add_attribute_plan` but for the fields `fills` and
--- `marks`, which are equal by the contracts of `must_be_present` and `unmarked`.
-use borrow.Author.Rules.{rules}
+-- `plans::add_attribute_plan` meets its contract: the 64 marks of `NOTHING` are what `unmarked` of CallPlans unfolds
+-- to, and `fills` is equal by the contract of `must_be_present`.
+use Rattle.plans.specs.CallPlans.{unmarked}
 use Rattle.plans.proofs.add_attribute_plan.Goals as goal
 
 pub returns : goal.returns
-returns c = rw (c.must_be_present.ensures, c.unmarked.ensures)
+unfolding unmarked
+returns c = rw c.must_be_present.ensures

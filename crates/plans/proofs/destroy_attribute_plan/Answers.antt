@@ -1,7 +1,8 @@
--- `plans::destroy_attribute_plan` meets its contract: the return is `destroy_attribute_plan` but for the field `marks`,
--- which is equal by the contract of `unmarked`.
-use borrow.Author.Rules.{rules}
+-- `plans::destroy_attribute_plan` meets its contract: the 64 marks of `NOTHING` are what `unmarked` of CallPlans unfolds to.
+use mathlib.Core.Path.{refl}
+use Rattle.plans.specs.CallPlans.{unmarked}
 use Rattle.plans.proofs.destroy_attribute_plan.Goals as goal
 
 pub returns : goal.returns
-returns c = rw c.unmarked.ensures
+unfolding unmarked
+returns c = refl

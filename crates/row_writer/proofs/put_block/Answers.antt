@@ -6,7 +6,6 @@ use native.Mathlib.Omega.{arith}
 use mathlib.Core.Path.{ap, sym}
 use lib.Seq.{length-take-le}
 use Rattle.row_writer.proofs.BlockLaws.{block_written, block_small}
-use borrow.Author.Rules.{rules}
 use Rattle.row_writer.proofs.put_block.Goals as goal
 
 pub overflow_mul-long : goal.overflow_mul-long
@@ -19,8 +18,8 @@ slice_bounds-block-end c =
     let size = ap (λ (i : ℕ). i * c.args.count) c.row_size-size.ensures in
     sym (length-take-le _ c.args.rows.now (omega (arith, c.requires.3, size)))
 
-pub put-at-requires : goal.put-at-requires
-put-at-requires c =
+pub put-c-requires : goal.put-c-requires
+put-c-requires c =
     let size = ap (λ (i : ℕ). i * c.args.count) c.row_size-size.ensures in
     let all = length-take-le (c.row_size-size.result * c.args.count) c.args.rows.now (omega (arith, c.requires.3, size)) in
     omega (arith, block_small c.requires.1 c.requires.4, size, all)
@@ -28,4 +27,4 @@ put-at-requires c =
 pub returns : goal.returns
 returns c =
     let size = ap (λ (i : ℕ). i * c.args.count) c.row_size-size.ensures in
-    block_written _ c.requires.2 c.requires.3 c.requires.4 _ size c.put-at.ensures
+    block_written _ c.requires.2 c.requires.3 c.requires.4 _ size c.put-c.ensures

@@ -1,7 +1,6 @@
 -- `row_writer::put_valued` meets its contract: where no row may be written any more the cursor stays (`written_stop` of
 -- WrittenLaws), else the row that `put_row_valued` lays is written and keeps its serial (`old_written`).
 use Rattle.row_writer.proofs.WrittenLaws.{written_stop, old_written}
-use borrow.Author.Rules.{rules}
 use Rattle.row_writer.proofs.put_valued.Goals as goal
 
 pub returns-then-c-eq0 : goal.returns-then-c-eq0
@@ -9,4 +8,4 @@ returns-then-c-eq0 c = written_stop c.if-c-eq0.true
 
 pub returns : goal.returns
 returns c =
-    old_written c.if-c-eq0.false c.requires.2 c.put_row_valued-at.ensures
+    old_written c.if-c-eq0.false c.requires.2 c.put_row_valued-c.ensures

@@ -25,10 +25,8 @@ pub fn attributes_to(store: &[u8], owner: u32) -> usize
     let count = layout::attribute_count(store);
     let attrs = layout::attributes_of(store);
     let mut sum = 0;
-    let mut i = 0;
-    while i < count {
+    for i in 0..count {
         sum += is_up_to(layout::attribute_at(w, attrs, i), owner);
-        i += 1;
     }
     sum
 }

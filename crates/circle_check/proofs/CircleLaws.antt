@@ -18,8 +18,7 @@ use Rattle.rules.specs.WellFormed.{definition_name, lookup, is_there, known, nam
 use Rattle.rules.proofs.Height.{deep, member_known, height}
 use Rattle.rules.proofs.WellFormedLaws.{lookup_here, lookup_there}
 use Rattle.rules.proofs.BooleanLaws.{all_map}
-use Rattle.circle_check.specs.declared.Heights.{Heights}
-use Rattle.circle_check.specs.Deep.{deep_index, Ranked}
+use Rattle.circle_check.specs.Deep.{deep_index}
 use Rattle.circle_check.proofs.RoundLaws.{deep_index_member, deep_index_known}
 
 -- ---- what the heights say
@@ -117,7 +116,3 @@ module _ {indices : ℕ → List ℕ} {form : Form} (w : Indexed indices form) w
     λ f. (height form names_known).1 (λ n k. let (i, l, e) = known_index form n k in ap (deep (length form) form) (sym e) ∙ sym (deep_index_is (length form) i l) ∙ f i l),
     λ a i l. deep_index_is (length form) i l ∙ (height form names_known).0 a (name_of i) (index_known i l),
   )
-
-  -- the heights fit just where no definition reaches itself
-  pub heights_acyclic : {r : Heights} → Ranked (length form) indices r → (r.fit ≡ true) ↔ ((n : Bytes) → Reaches form n n → ⊥)
-  heights_acyclic k = (λ e. fit_acyclic.0 (k.fit.0 e), λ a. k.fit.1 (fit_acyclic.1 a))

@@ -1,8 +1,7 @@
 -- Heights of definitions, as indices: the longest chain of members from each.
-use Rattle.std.specs.Prelude.{ℕ, zero, suc, ◌<◌, ◌≤◌, ◌≡◌, ◌↔◌, Bool, true, false, ◌&&◌, not, List, ltb, eqb, get_or}
+use Rattle.std.specs.Prelude.{ℕ, zero, suc, ◌<◌, ◌≤◌, ◌≡◌, ◌↔◌, Bool, true, false, ◌&&◌, not, List, ltb, eqb, get_or, Option, Some, IsSome}
 use Rattle.rules.specs.Bytes.{Bytes, all, between}
 use Rattle.rules.specs.Decode.{read_particle}
-use Rattle.circle_check.specs.declared.Heights.{Heights}
 
 -- definition i is one of n, and every chain of members from it ends within h definitions
 module _ (members : ℕ → List ℕ) where
@@ -28,7 +27,7 @@ pub record Round (n : ℕ) (members : ℕ → List ℕ) (h : ℕ) (old new : Byt
   pub others : (i : ℕ) → n ≤ i → get_or new i 0 ≡ 0
 
 -- ---- the result
--- A height is the least number of definitions within which all chains end, or 0 where that is more than n.
-pub record Ranked (n : ℕ) (members : ℕ → List ℕ) (r : Heights) : Type 0 where
-  pub fit : (r.fit ≡ true) ↔ ((i : ℕ) → i < n → deep_index members n n i ≡ true)
-  pub height : (i h : ℕ) → h ≤ n → deep_index members n h i ≡ between 1 h (get_or r.of i 0)
+-- There are heights just where all chains end. A height is the least number of definitions within which they do.
+pub record Ranked (n : ℕ) (members : ℕ → List ℕ) (r : Option Bytes) : Type 0 where
+  pub fit : IsSome r ↔ ((i : ℕ) → i < n → deep_index members n n i ≡ true)
+  pub height : (of : Bytes) → r ≡ Some of → (i h : ℕ) → h ≤ n → deep_index members n h i ≡ between 1 h (get_or of i 0)

@@ -9,14 +9,6 @@ ghost use Rattle.circle_check.specs.Avoiding.{Avoids};
 
 use layout::MAX_DEFINITIONS;
 
-/// Whether every chain of members ends, and the height of each definition, which is more than that of each member; 0
-/// for one from which a chain does not end.
-#[derive(Clone, Copy)]
-pub struct Heights {
-    pub fit: bool,
-    pub of: [u8; MAX_DEFINITIONS],
-}
-
 // Whether the first particle of t is a group, or an element (sort 0) whose index has a height.
 fn first_passes(t: &[u8], old: &[u8; MAX_DEFINITIONS]) -> bool
     ensures { result ≡ first_passes (has_height old.now) t.now }
@@ -71,13 +63,11 @@ fn round(
 {
     let mut new = [0; MAX_DEFINITIONS];
     let mut start: usize = 0;
-    let mut i = 0;
-    while i < n {
+    for i in 0..n {
         let count = layout::definition_particles_at(defs, i) as usize;
         let model = layout::particles_part(parts, start, count);
         new[i] = raised(model, old, old[i], h);
         start += count;
-        i += 1;
     }
     new
 }
@@ -87,29 +77,25 @@ fn whole(n: usize, heights: &[u8; MAX_DEFINITIONS]) -> bool
     requires { n ≤ 64 }
     ensures { (result ≡ true) ↔ ((i : ℕ) → i < n → has_height heights.now i ≡ true) }
 {
-    let mut i = 0;
-    while i < n {
+    for i in 0..n {
         if heights[i] == 0 {
             return false;
         }
-        i += 1;
     }
     true
 }
 
-/// The heights of the n definitions. None is higher than n, so n rounds over all particles settle it.
-pub fn heights_of(n: usize, defs: &[u8], parts: &[u8]) -> Heights
+/// The heights of the n definitions, each more than those of its members, if every chain of members ends. No height is
+/// more than n, so n rounds over all particles settle it.
+pub fn heights_of(n: usize, defs: &[u8], parts: &[u8]) -> Option<[u8; MAX_DEFINITIONS]>
     requires { n ≤ 64 }
     ensures { Ranked n (members_in defs.now parts.now) result }
 {
     let mut of = [0; MAX_DEFINITIONS];
-    let mut h: usize = 0;
-    while h < n {
+    for h in 0..n {
         of = round(n, defs, parts, &of, (h + 1) as u8);
-        h += 1;
     }
-    let fit = whole(n, &of);
-    Heights { fit: fit, of: of }
+    if whole(n, &of) { Some(of) } else { None }
 }
 
 /// Heights of the n definitions from which no chain leads to the target; 0 for the target, and for one that reaches it.
@@ -118,11 +104,9 @@ pub fn heights_avoiding(n: usize, defs: &[u8], parts: &[u8], target: usize) -> [
     ensures { Avoids n (members_in defs.now parts.now) target result }
 {
     let mut of = [0; MAX_DEFINITIONS];
-    let mut rounds: usize = 0;
-    while rounds < n {
+    for rounds in 0..n {
         of = round(n, defs, parts, &of, (rounds + 1) as u8);
         of[target] = 0;
-        rounds += 1;
     }
     of
 }

@@ -28,15 +28,13 @@ pub fn name_exists(store: &[u8], name: &[u8]) -> bool
 {
     let count = layout::definition_count(store);
     let defs = layout::definitions_of(store);
-    let mut i = 0;
-    while i < count {
+    for i in 0..count {
         if codec::equal(
             name,
             layout::definition_name(layout::definition_at(defs, i)),
         ) {
             return true;
         }
-        i += 1;
     }
     false
 }

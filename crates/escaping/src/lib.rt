@@ -23,13 +23,10 @@ fn put_escaped_byte(x: u8, out: &mut [u8], at: usize) -> usize
 fn is_plain(value: &[u8]) -> bool
     ensures { result ≡ true → escape value.now ≡ value.now }
 {
-    let mut i = 0;
-    while i < value.len() {
-        let x = value[i];
-        if (x == 38) | (x == 60) | (x == 62) | (x == 34) {
+    for x in value {
+        if (*x == 38) | (*x == 60) | (*x == 62) | (*x == 34) {
             return false;
         }
-        i += 1;
     }
     true
 }
@@ -43,10 +40,8 @@ pub fn put_escaped(value: &[u8], out: &mut [u8], start: usize) -> usize
         return codec::put(value, out, start);
     }
     let mut at = start;
-    let mut i = 0;
-    while i < value.len() {
-        at = put_escaped_byte(codec::byte(value, i), out, at);
-        i += 1;
+    for x in value {
+        at = put_escaped_byte(*x, out, at);
     }
     at
 }

@@ -26,9 +26,7 @@ fn name_again(n: usize, defs: &[u8], i: usize) -> bool
     ensures { result ≡ any (same_name (definition_record_at i defs.now)) (drop (i + 1) (definitions n defs.now)) }
 {
     let name = layout::definition_name(layout::definition_at(defs, i));
-    let mut j = i;
-    while j + 1 < n {
-        j += 1;
+    for j in i + 1..n {
         if same_name(name, defs, j) {
             return true;
         }
@@ -41,12 +39,10 @@ pub fn definitions_apart(n: usize, defs: &[u8]) -> bool
     requires { Body 64 definition_size n defs.now }
     ensures { result ≡ definitions_apart (definitions n defs.now) }
 {
-    let mut i = 0;
-    while i < n {
+    for i in 0..n {
         if name_again(n, defs, i) {
             return false;
         }
-        i += 1;
     }
     true
 }
@@ -72,9 +68,7 @@ fn attribute_again(w: usize, a: usize, attrs: &[u8], i: usize) -> bool
     requires { Width w × Body 64 (attribute_size w) a attrs.now × (i < a) }
     ensures { result ≡ any (clashes (attribute_record_at w i attrs.now)) (drop (i + 1) (attributes w a attrs.now)) }
 {
-    let mut j = i;
-    while j + 1 < a {
-        j += 1;
+    for j in i + 1..a {
         if same_attribute(w, attrs, i, j) {
             return true;
         }
@@ -87,12 +81,10 @@ pub fn attributes_apart(w: usize, a: usize, attrs: &[u8]) -> bool
     requires { Width w × Body 64 (attribute_size w) a attrs.now }
     ensures { result ≡ attributes_apart (attributes w a attrs.now) }
 {
-    let mut i = 0;
-    while i < a {
+    for i in 0..a {
         if attribute_again(w, a, attrs, i) {
             return false;
         }
-        i += 1;
     }
     true
 }
@@ -103,14 +95,12 @@ pub fn owners_rise(w: usize, a: usize, attrs: &[u8]) -> bool
     ensures { result ≡ owners_rise 0 (attributes w a attrs.now) }
 {
     let mut least: usize = 0;
-    let mut i = 0;
-    while i < a {
+    for i in 0..a {
         let o = layout::attribute_owner_at(w, attrs, i);
         if o < least {
             return false;
         }
         least = o;
-        i += 1;
     }
     true
 }
@@ -121,8 +111,7 @@ pub fn models_fit(n: usize, defs: &[u8], p: usize, parts: &[u8]) -> bool
     ensures { result ≡ models_fit n (definitions n defs.now) (particles_read p parts.now) }
 {
     let mut at: usize = 0;
-    let mut i = 0;
-    while i < n {
+    for i in 0..n {
         let size = layout::definition_particles_at(defs, i) as usize;
         if p - at < size {
             return false;
@@ -131,7 +120,6 @@ pub fn models_fit(n: usize, defs: &[u8], p: usize, parts: &[u8]) -> bool
             return false;
         }
         at += size;
-        i += 1;
     }
     at == p
 }

@@ -12,13 +12,11 @@ pub fn instance_exists(store: &[u8], definition: u32) -> bool
     let w = layout::width_in(store);
     let rows = layout::rows_of(store);
     let count = layout::row_count(store);
-    let mut i = 0;
-    while i < count {
+    for i in 0..count {
         let row = layout::row_at(w, rows, i);
         if (layout::row_sort(row) == 1) & (layout::row_index(row) == definition) {
             return true;
         }
-        i += 1;
     }
     false
 }

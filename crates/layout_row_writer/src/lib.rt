@@ -14,10 +14,8 @@ pub fn put_zeros(n: usize, out: &mut [u8], at: usize) -> usize
 {
     let next = at + n;
     let end = layout::least(next, out.len());
-    let mut i = at;
-    while i < end {
+    for i in at..end {
         out[i] = 0;
-        i += 1;
     }
     next
 }

@@ -78,12 +78,10 @@ pub fn find_value(store: &[u8], serial: u32) -> Found
     let w = layout::width_in(store);
     let rows = from_rows(store);
     let count = layout::row_count(store);
-    let mut i = 0;
-    while i < count {
+    for i in 0..count {
         if layout::row_serial(layout::row_at(w, rows, i)) == serial {
             return found_at(store, i);
         }
-        i += 1;
     }
     Found {
         number: 7,

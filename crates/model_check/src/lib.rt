@@ -15,8 +15,7 @@ fn members(m: usize, parts: &[u8], from: usize, k: usize) -> usize
     ensures { result ≡ count_beside k (drop from (particles_read m parts.now)) }
 {
     let mut count: usize = 0;
-    let mut j = from;
-    while j < m {
+    for j in from..m {
         let depth = layout::particle_depth_at(parts, j);
         if depth < k {
             return count;
@@ -24,7 +23,6 @@ fn members(m: usize, parts: &[u8], from: usize, k: usize) -> usize
         if depth == k {
             count += 1;
         }
-        j += 1;
     }
     count
 }
@@ -58,9 +56,7 @@ fn element_again(m: usize, parts: &[u8], i: usize) -> bool
     requires { (m ≤ 256) × (i < m) }
     ensures { result ≡ any (same_element (particle_record_at i parts.now)) (drop (i + 1) (particles_read m parts.now)) }
 {
-    let mut j = i;
-    while j + 1 < m {
-        j += 1;
+    for j in i + 1..m {
         if same_element(parts, i, j) {
             return true;
         }
@@ -92,13 +88,11 @@ pub fn model_fits(n: usize, m: usize, parts: &[u8]) -> bool
     ensures { result ≡ model_fits n (particles_read m parts.now) }
 {
     let mut d: usize = 0;
-    let mut i = 0;
-    while i < m {
+    for i in 0..m {
         if !particle_stands(n, m, parts, i, d) {
             return false;
         }
         d = layout::particle_depth_at(parts, i) + 1;
-        i += 1;
     }
     true
 }

@@ -15,7 +15,6 @@ use Rattle.rules.specs.Layout.{name_width, header_size, definition_size, particl
 use Rattle.rules.specs.WellFormed.{starts_name, in_name, stored_name, is_value, is_fill}
 use Rattle.rules.specs.Decode.{number_at, read_definition, read_attribute, read_row, definition_count, particle_count, attribute_count, row_count, sized, sort_of}
 use Rattle.rules.specs.Passing.{known_version}
-use Rattle.codec.proofs.Writers.{tail_seen}
 use Rattle.byte_check.specs.Zeros.{zeros}
 use Rattle.layout.specs.Fields.{definition_entry_at, particle_entry_at, attribute_entry_at, row_entry_at, version_at, next_at, definition_name_at, attribute_name_at}
 use Rattle.layout.specs.Fields.{attribute_value_at, attribute_length, row_value_at, row_length, unused_fit}
@@ -214,25 +213,16 @@ drop_least n bs = by (leb n (length bs)) refl
         let g : length bs ≤ min n (length bs) = omega (arith, min-eq_right h) in
         drop_of_length-le bs g ∙ sym (drop_of_length-le bs h)
 
-module _ (p : Bytes → Bool) (size left : ℕ) (rest : Bytes) {b : Bool} (inv : b ≡ each_fits p size left rest) where
-  each_here : 0 < left → each_fits p size left rest ≡ (p (take size rest) && each_fits p size (left - 1) (drop size rest))
-  unfolding each_fits
-  each_here h = by left h
-    where
-      by : (n : ℕ) → 0 < n → each_fits p size n rest ≡ (p (take size rest) && each_fits p size (n - 1) (drop size rest))
-      by zero l = absurd (omega arith)
-      by (suc k) l = let e : k ≡ suc k - 1 = omega arith in ap (λ (n : ℕ). p (take size rest) && each_fits p size n (drop size rest)) e
+-- what a loop over records has left: `count` of them, less the i that have passed
+module _ (p : Bytes → Bool) (size count : ℕ) where
+  pub each_start : (bs : Bytes) → each_fits p size count bs ≡ each_fits p size (count - 0) bs
+  each_start bs = let e : count ≡ count - 0 = omega arith in ap (λ (n : ℕ). each_fits p size n bs) e
 
-  pub each_on : (rec : Bytes) (n : ℕ) {t : Bool} → 0 < left → rec ≡ take size rest → t ≡ p rec → t ≡ true → n ≡ min size (length rest)
-      → b ≡ each_fits p size (left - 1) (take (length rest - n) (drop n rest))
-  each_on rec n h r t e m =
-      inv
-      ∙ each_here h
-      ∙ ap₂ (λ (x : Bool) (ys : Bytes). x && each_fits p size (left - 1) ys) (ap p (sym r) ∙ sym t ∙ e) (sym (drop_least size rest) ∙ ap (λ (k : ℕ). drop k rest) (sym m) ∙ sym (tail_seen rest n))
+  module _ (i : ℕ) (rest : Bytes) where
+    pub each_next : i < count → each_fits p size (count - i) rest ≡ (p (take size rest) && each_fits p size (count - (i + 1)) (drop size rest))
+    unfolding each_fits
+    each_next h = let e : count - i ≡ suc (count - (i + 1)) = omega arith in ap (λ (n : ℕ). each_fits p size n rest) e
 
-  pub each_off : (rec : Bytes) {t : Bool} → 0 < left → rec ≡ take size rest → t ≡ p rec → t ≡ false → false ≡ b
-  each_off rec h r t e = sym (inv ∙ each_here h ∙ ap (λ (x : Bool). x && each_fits p size (left - 1) (drop size rest)) (ap p (sym r) ∙ sym t ∙ e))
-
-  pub each_end : left ≤ 0 → true ≡ b
-  unfolding each_fits
-  each_end h = let e : left ≡ 0 = omega arith in sym (inv ∙ ap (λ (n : ℕ). each_fits p size n rest) e)
+    pub each_end : count ≤ i → each_fits p size (count - i) rest ≡ true
+    unfolding each_fits
+    each_end h = let e : count - i ≡ zero = omega arith in ap (λ (n : ℕ). each_fits p size n rest) e

@@ -1,7 +1,9 @@
 //! The tests of single records, on their bytes. All are total: a byte past the end counts 0.
 #![tactic(auto)]
 
-ghost use Rattle.std.specs.Prelude.{◌≡◌, take, drop};
+ghost use Rattle.std.specs.Prelude.{◌≡◌, Bool, take, drop};
+ghost use Rattle.std.specs.Fn.{FnReturnsAt};
+ghost use Rattle.rules.specs.Bytes.{Bytes};
 ghost use Rattle.rules.specs.Layout.{definition_size, attribute_size};
 ghost use Rattle.rules.specs.Decode.{sort_of};
 ghost use Rattle.rules.specs.WellFormed.{stored_name, given_name, is_value, is_fill};
@@ -139,23 +141,28 @@ pub fn row_fits(w: usize, rec: &[u8]) -> bool
 
 // ---- bodies
 
-// A body that is too short is read as far as it goes.
+// Whether the first `count` records of a body, of `size` bytes each, pass a test. A body that is too short is read as
+// far as it goes.
+fn each_fits<F: Fn(&[u8]) -> bool>(body: &[u8], size: usize, count: usize, fits: F) -> bool
+    requires { F.IsAlwaysCallable fits }
+    ensures { (p : Bytes → Bool) → ((rec : Bytes) (r : Bool) → FnReturnsAt F.Fn fits rec r → r ≡ p rec)
+        → result ≡ each_fits p size count body.now }
+{
+    let mut rest = body;
+    for _ in 0..count {
+        if !fits(codec::first(rest, size)) {
+            return false;
+        }
+        rest = codec::after(rest, size);
+    }
+    true
+}
 
 /// Whether the first `count` records of a body are definitions'.
 pub fn definitions_fit(body: &[u8], count: usize) -> bool
     ensures { result ≡ each_fits definition_fits definition_size count body.now }
 {
-    let mut rest = body;
-    let mut left = count;
-    while 0 < left {
-        if !definition_fits(codec::first(rest, layout::DEFINITION_SIZE)) {
-            return false;
-        }
-        let read = layout::least(layout::DEFINITION_SIZE, rest.len());
-        rest = &rest[read..];
-        left -= 1;
-    }
-    true
+    each_fits(body, layout::DEFINITION_SIZE, count, definition_fits)
 }
 
 /// Whether the first `count` records of a body are those of attributes, among n definitions.
@@ -163,18 +170,12 @@ pub fn attributes_fit(w: usize, body: &[u8], count: usize, n: usize) -> bool
     requires { Width w }
     ensures { result ≡ each_fits (attribute_fits w n) (attribute_size w) count body.now }
 {
-    let size = layout::attribute_size(w);
-    let mut rest = body;
-    let mut left = count;
-    while 0 < left {
-        if !attribute_fits(w, codec::first(rest, size), n) {
-            return false;
-        }
-        let read = layout::least(size, rest.len());
-        rest = &rest[read..];
-        left -= 1;
-    }
-    true
+    each_fits(
+        body,
+        layout::attribute_size(w),
+        count,
+        |rec| attribute_fits(w, rec, n),
+    )
 }
 
 // ---- what an attribute's sort says

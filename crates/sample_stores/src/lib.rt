@@ -109,14 +109,12 @@ fn lay_row(store: &mut [u8; DEEPEST], i: usize)
 }
 
 fn lay_bodies(store: &mut [u8; DEEPEST]) {
-    let mut i = 0;
-    while i < 64 {
+    for i in 0..64 {
         lay_definition(store, i);
         if i < 63 {
             lay_particle(store, i);
         }
         lay_row(store, i);
-        i += 1;
     }
 }
 

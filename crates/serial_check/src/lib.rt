@@ -29,6 +29,7 @@ fn sought(w: usize, rows: &[u8], below: &[u16; PLACES], from: u16, s: u32) -> us
 {
     let mut j = (from - 1) as usize;
     let mut rest = s / 4096;
+    // It follows links from row to row: no range or list of them is there to iterate over.
     loop {
         if serial_at(w, rows, j) == s {
             return PLACES;
@@ -78,13 +79,11 @@ pub fn serials_differ(w: usize, rows: &[u8], count: usize) -> bool
 {
     let mut heads: [u16; MAX_ROWS] = [0; MAX_ROWS];
     let mut below: [u16; PLACES] = [0; PLACES];
-    let mut k = 0;
-    while k < count {
+    for k in 0..count {
         let s = serial_at(w, rows, k);
         if !put_in_tree(w, rows, &mut heads, &mut below, k, s) {
             return false;
         }
-        k += 1;
     }
     true
 }

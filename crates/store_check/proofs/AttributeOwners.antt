@@ -7,7 +7,7 @@ use mathlib.Core.Option.{none, some}
 use mathlib.Core.List.{List, [], ◌∷◌}
 use lib.ListN.{length, length-append}
 use Rattle.rules.specs.Bytes.{Bytes}
-use Rattle.rules.specs.Store.{Attribute, Form, attribute}
+use Rattle.rules.specs.Store.{Attribute, Form}
 use Rattle.rules.specs.Layout.{own_attributes, all_attributes}
 use Rattle.rules.specs.Decode.{attribute_count}
 use Rattle.rules.specs.Change.{Owned, entry_at, attribute_at}

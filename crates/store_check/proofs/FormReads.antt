@@ -11,7 +11,7 @@ use lib.ListN.{length, take, drop, get_or, length-map, take-append-drop}
 use lib.Seq.{length-take-le}
 use borrow.Author.Tests.{leb-true}
 use Rattle.rules.specs.Bytes.{Bytes, bytes}
-use Rattle.rules.specs.Model.{names, rename, Distinct, distinct}
+use Rattle.rules.specs.Model.{rename, Distinct, distinct}
 use Rattle.rules.specs.Store.{Definition, Form, members}
 use Rattle.rules.specs.Preorder.{Deep, build}
 use Rattle.rules.specs.Layout.{FlatDefinition, FlatParticle, FlatAttribute, FlatStore, kind_code, content_particles, flat_definition, all_particles, all_attributes}

@@ -36,8 +36,7 @@ fn form_fits(
     if !form_check::bodies_fit(w, n, defs, p, parts, a, attrs) {
         return false;
     }
-    let heights = circle_check::heights_of(n, defs, parts);
-    heights.fit
+    circle_check::heights_of(n, defs, parts).is_some()
 }
 
 fn form_passes(store: &[u8], s: Shape) -> bool

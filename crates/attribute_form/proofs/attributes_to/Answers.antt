@@ -2,9 +2,7 @@
 -- of CountLaws) and after each, by what `is_up_to` answers of it (`counting_on`); past the last, `sum` counts all
 -- attributes of the store (`counting_end`).
 use native.Mathlib.Omega.{arith}
-use Prim.Native.Nat.{◌-◌}
-use Rattle.attribute_form.proofs.CountLaws.{Counting, counting_start, counting_on, counting_end}
-use borrow.Author.Rules.{rules}
+use Rattle.attribute_form.proofs.CountLaws.{counting_start, counting_on, counting_end}
 use Rattle.attribute_form.proofs.attributes_to.Goals as goal
 
 pub loop-i-init : goal.loop-i-init
@@ -18,10 +16,6 @@ attribute_at-requires c =
 pub overflow_add-sum : goal.overflow_add-sum
 overflow_add-sum c =
     omega (arith, c.loop-i.invariant.small, c.loop-i.invariant.bound, c.is_up_to-sum.ensures.most)
-
-pub overflow_add-i : goal.overflow_add-i
-overflow_add-i c =
-    omega (arith, c.loop-i.invariant.bound)
 
 pub loop-i-preserved : goal.loop-i-preserved
 loop-i-preserved c =

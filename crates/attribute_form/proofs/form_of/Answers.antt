@@ -5,7 +5,6 @@ use native.Mathlib.Omega.{arith}
 use Rattle.store_laws.proofs.StoreLaws.{holds}
 use Rattle.store_laws.proofs.FormLaws.{start_within}
 use Rattle.attribute_form.proofs.FormParts.{form_at_lem}
-use borrow.Author.Rules.{rules}
 use Rattle.attribute_form.proofs.form_of.Goals as goal
 
 pub overflow_sub-end : goal.overflow_sub-end

@@ -2,7 +2,6 @@
 -- attribute counts 1 (`up_to` of CountLaws), above it 0 (`past_it`).
 use native.Mathlib.Omega.{arith}
 use Rattle.attribute_form.proofs.CountLaws.{up_to, past_it}
-use borrow.Author.Rules.{rules}
 use Rattle.attribute_form.proofs.is_up_to.Goals as goal
 
 pub returns-then-of-owner : goal.returns-then-of-owner

@@ -3,7 +3,6 @@
 -- `through_attributes` that place is not below the header's size.
 use native.Mathlib.Omega.{arith}
 use Rattle.attribute_form.proofs.CountLaws.{stands}
-use borrow.Author.Rules.{rules}
 use Rattle.attribute_form.proofs.place_of.Goals as goal
 
 pub overflow_sub-result : goal.overflow_sub-result

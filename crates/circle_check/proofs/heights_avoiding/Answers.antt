@@ -1,11 +1,8 @@
 -- `circle_check::heights_avoiding` meets its contract: the invariant holds before the first round (`avoiding_starts` of
 -- AvoidLaws) and after each, the target's height set to 0 (`avoiding_on`, by the contract of `round`); after n rounds
 -- it is the contract (`avoiding_ends`).
-use borrow.Author.Rules.{rules}
-use Prim.Native.Nat.{◌-◌}
 use native.Mathlib.Omega.{arith}
-use Rattle.circle_check.specs.Members.{members_in}
-use Rattle.circle_check.proofs.AvoidLaws.{Avoiding, avoiding_starts, avoiding_on, avoiding_ends}
+use Rattle.circle_check.proofs.AvoidLaws.{avoiding_starts, avoiding_on, avoiding_ends}
 use Rattle.circle_check.proofs.heights_avoiding.Goals as goal
 
 pub loop-rounds-init : goal.loop-rounds-init

@@ -1,11 +1,10 @@
 -- `circle_check::heights_of` meets its contract: the invariant holds before the first round (`rounds_start` of
--- RoundLaws) and after each (`rounds_on`, by the contract of `round`); after n rounds it gives the heights, and with
--- the answer of `whole` whether every chain ends (`rounds_end`).
-use borrow.Author.Rules.{rules}
-use Prim.Native.Nat.{◌-◌}
+-- RoundLaws) and after each (`rounds_on`, by the contract of `round`); after n rounds it gives the heights where by
+-- `whole` each definition has one (`rounds_end`), and else some chain does not end (`rounds_fail`).
+use mathlib.Core.Path.{sym, ◌∙◌}
+use mathlib.Core.Bool.{false≢true}
 use native.Mathlib.Omega.{arith}
-use Rattle.circle_check.specs.Members.{members_in}
-use Rattle.circle_check.proofs.RoundLaws.{Rounds, rounds_start, rounds_on, rounds_end}
+use Rattle.circle_check.proofs.RoundLaws.{rounds_start, rounds_on, rounds_end, rounds_fail}
 use Rattle.circle_check.proofs.heights_of.Goals as goal
 
 pub loop-h-init : goal.loop-h-init
@@ -15,6 +14,10 @@ pub loop-h-preserved : goal.loop-h-preserved
 loop-h-preserved c =
     rounds_on c.loop-h.invariant (omega arith) c.round-of.ensures
 
-pub returns : goal.returns
-returns c =
-    rounds_end c.loop-h.invariant (omega arith) c.whole-fit.ensures
+pub returns-then-whole : goal.returns-then-whole
+returns-then-whole c =
+    rounds_end c.loop-h.invariant (omega arith) (c.whole.ensures.0 c.if-whole.true)
+
+pub returns-else-whole : goal.returns-else-whole
+returns-else-whole c =
+    rounds_fail c.loop-h.invariant (omega arith) (λ w. false≢true (sym c.if-whole.false ∙ c.whole.ensures.1 w))

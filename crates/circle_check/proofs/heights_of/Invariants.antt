@@ -1,14 +1,8 @@
-use borrow.Author.Rules.{rules}
-use Prim.Native.Nat.{◌-◌}
-use native.Mathlib.Omega.{arith}
 use Rattle.circle_check.specs.Members.{members_in}
-use Rattle.circle_check.proofs.RoundLaws.{Rounds, rounds_start, rounds_on, rounds_end}
+use Rattle.circle_check.proofs.RoundLaws.{Rounds}
 use Rattle.circle_check.proofs.heights_of.Given as goal
 
 -- The loop's invariant: after h rounds, for each k up to h, a definition has a height of at most k if and only if every
 -- chain of members from it ends within k definitions.
 abbrev pub invariant-loop-h : goal.invariant-loop-h
 invariant-loop-h l = Rounds l.n (members_in l.defs l.parts) l.of l.h
-
-abbrev pub decreases-loop-h : goal.decreases-loop-h
-decreases-loop-h l = 64 - l.h

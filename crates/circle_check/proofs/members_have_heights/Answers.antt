@@ -1,15 +1,11 @@
 -- `circle_check::members_have_heights` meets its contract: a first particle that does not pass makes the answer false
 -- (`settle_no` of MemberLaws), one that passes leaves it to the particles after it (`settle_on`), and with no particle
 -- left it is true (`settle_ends`).
-use borrow.Author.Rules.{rules}
-use borrow.Author.Tests.{not-true, not-false}
-use mathlib.Core.Path.{◌≡◌, refl}
+use mathlib.Core.Path.{refl}
 use native.Mathlib.Omega.{arith}
 use Prim.Native.Nat.{◌-◌}
 use lib.ListN.{length, drop, length-take, length-drop}
 use Rattle.circle_check.specs.Deep.{has_height}
-use Rattle.circle_check.specs.Members.{elements_of}
-use Rattle.rules.specs.Bytes.{all}
 use Rattle.circle_check.proofs.MemberLaws.{settle_on, settle_no, settle_ends}
 use Rattle.circle_check.proofs.members_have_heights.Goals as goal
 

@@ -1,13 +1,8 @@
-use borrow.Author.Rules.{rules}
-use borrow.Author.Tests.{not-true, not-false}
-use mathlib.Core.Path.{◌≡◌, refl}
-use native.Mathlib.Omega.{arith}
-use Prim.Native.Nat.{◌-◌}
-use lib.ListN.{length, drop, length-take, length-drop}
+use mathlib.Core.Path.{◌≡◌}
+use lib.ListN.{length}
 use Rattle.circle_check.specs.Deep.{has_height}
 use Rattle.circle_check.specs.Members.{elements_of}
 use Rattle.rules.specs.Bytes.{all}
-use Rattle.circle_check.proofs.MemberLaws.{settle_on, settle_no, settle_ends}
 use Rattle.circle_check.proofs.members_have_heights.Given as goal
 
 -- The loop's invariant: every element of the model has a height if and only if every element of what is left, t, has

@@ -4,7 +4,6 @@ use Rattle.rules.specs.Bytes.{all}
 use Rattle.circle_check.specs.Members.{elements_of}
 use Rattle.circle_check.specs.Deep.{has_height}
 use Rattle.circle_check.proofs.RoundLaws.{raised_was, raised_new, raised_none}
-use borrow.Author.Rules.{rules}
 use Rattle.circle_check.proofs.raised.Goals as goal
 
 pub returns-then-was-ne0 : goal.returns-then-was-ne0

@@ -1,10 +1,8 @@
 -- `circle_check::round` meets its contract: the invariant holds before the first definition (`rounding_starts` of
 -- RoundLaws) and after each, by what `particles_part` reads and `raised` answers (`rounding_on`); past the last it is
 -- `Round` (`rounding_ends`).
-use borrow.Author.Rules.{rules}
-use Prim.Native.Nat.{◌-◌}
 use native.Mathlib.Omega.{arith}
-use Rattle.circle_check.proofs.RoundLaws.{Rounding, rounding_starts, rounding_on, rounding_ends}
+use Rattle.circle_check.proofs.RoundLaws.{rounding_starts, rounding_on, rounding_ends}
 use Rattle.circle_check.proofs.round.Goals as goal
 
 pub loop-i-init : goal.loop-i-init

@@ -1,9 +1,7 @@
 -- `circle_check::whole` meets its contract: a height of 0 makes the answer false (`passed_no` of RoundLaws); any other
 -- keeps the invariant (`passed_starts`, `passed_on`), and past the last definition the answer is true (`passed_ends`).
-use borrow.Author.Rules.{rules}
 use native.Mathlib.Omega.{arith}
-use Prim.Native.Nat.{◌-◌}
-use Rattle.circle_check.proofs.RoundLaws.{Passed, passed_starts, passed_on, passed_no, passed_ends}
+use Rattle.circle_check.proofs.RoundLaws.{passed_starts, passed_on, passed_no, passed_ends}
 use Rattle.circle_check.proofs.whole.Goals as goal
 
 pub loop-i-init : goal.loop-i-init

@@ -10,6 +10,3 @@ use Rattle.definition_writer.proofs.name_exists.Given as goal
 -- the definitions from number i on are left
 abbrev pub invariant-loop-i : goal.invariant-loop-i
 invariant-loop-i l = Searching read_definition definition_size (has_name l.name) l.defs l.count l.i
-
-abbrev pub decreases-loop-i : goal.decreases-loop-i
-decreases-loop-i l = l.count - l.i

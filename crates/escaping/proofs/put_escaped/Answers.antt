@@ -14,15 +14,15 @@ pub returns-then-is_plain : goal.returns-then-is_plain
 returns-then-is_plain c =
     laid_as (c.is_plain.ensures c.if-is_plain.true) c.put.ensures
 
-pub loop-i-init : goal.loop-i-init
-loop-i-init c = record { goes = λ r o l. l; small = omega arith; inside = omega arith; long = refl }
+pub loop-x-init : goal.loop-x-init
+loop-x-init c = record { goes = λ r o l. l; small = omega arith; inside = omega arith; long = refl }
 
 pub put_escaped_byte-at-requires : goal.put_escaped_byte-at-requires
 put_escaped_byte-at-requires c = omega arith
 
-pub loop-i-preserved : goal.loop-i-preserved
-loop-i-preserved c =
-    escaping_on c.args.value.now _ c.loop-i.invariant (omega arith) c.byte.ensures c.put_escaped_byte-at.ensures
+pub loop-x-preserved : goal.loop-x-preserved
+loop-x-preserved c =
+    escaping_on c.args.value.now _ c.loop-x.invariant (omega arith) refl c.put_escaped_byte-at.ensures
 
 pub returns : goal.returns
-returns c = escaping_done _ c.loop-i.invariant (omega arith)
+returns c = escaping_done _ c.loop-x.invariant (omega arith)

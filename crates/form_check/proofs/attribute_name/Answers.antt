@@ -1,6 +1,5 @@
 -- `form_check::attribute_name` meets its contract. The name field of an attribute, where the code reads it.
 use Rattle.form_check.proofs.Reading.{attribute_name_lem}
-use borrow.Author.Rules.{rules}
 use Rattle.form_check.proofs.attribute_name.Goals as goal
 
 pub returns : goal.returns

@@ -1,13 +1,9 @@
 -- `form_check::attributes_apart` meets its contract. The loop's invariant: the attributes from i on are apart if and
--- only if all are. The measure is what is left of them.
-use mathlib.Core.Path.{◌≡◌, refl, sym, ◌∙◌}
-use Prim.Native.Nat.{◌-◌}
+-- only if all are.
+use mathlib.Core.Path.{refl, sym, ◌∙◌}
 use native.Mathlib.Omega.{arith}
-use borrow.Author.Rules.{rules}
-use lib.ListN.{drop}
 use Rattle.form_check.specs.FormTests.{clashes}
 use Rattle.form_check.specs.Bodies.{attributes}
-use Rattle.model_check.specs.Particles.{apart}
 use Rattle.form_check.proofs.Reading.{attributes_from_lem, attributes_end}
 use Rattle.form_check.proofs.Laws.{apart_on, apart_off, apart_end, attributes_apart_lem}
 use Rattle.form_check.proofs.attributes_apart.Goals as goal
@@ -22,12 +18,6 @@ returns-then-attribute_again c =
     (apart_off clashes (attributes_from_lem a.w c.loop-i.i a.a a.attrs.now (omega arith))
     (sym c.attribute_again.ensures ∙ c.if-attribute_again.true))
     ∙ c.loop-i.invariant ∙ attributes_apart_lem (attributes a.w a.a a.attrs.now)
-
-pub overflow_add-i : goal.overflow_add-i
-overflow_add-i c = omega arith
-
-pub loop-i-smaller : goal.loop-i-smaller
-loop-i-smaller c = omega arith
 
 pub loop-i-preserved : goal.loop-i-preserved
 loop-i-preserved c =

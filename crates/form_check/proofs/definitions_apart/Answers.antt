@@ -1,12 +1,8 @@
--- `form_check::definitions_apart` meets its contract. The loop's invariant: the definitions from i on are apart if and
--- only if all are. The measure is what is left of them.
-use mathlib.Core.Path.{◌≡◌, refl, sym, ◌∙◌}
-use Prim.Native.Nat.{◌-◌}
+-- `form_check::definitions_apart` meets its contract. The loop's invariant: the definitions from i on are apart if
+-- and only if all are.
+use mathlib.Core.Path.{refl, sym, ◌∙◌}
 use native.Mathlib.Omega.{arith}
-use borrow.Author.Rules.{rules}
-use lib.ListN.{drop}
 use Rattle.form_check.specs.Bodies.{definitions, same_name}
-use Rattle.model_check.specs.Particles.{apart}
 use Rattle.form_check.proofs.Reading.{definitions_from_lem, definitions_end}
 use Rattle.form_check.proofs.Laws.{apart_on, apart_off, apart_end, definitions_apart_lem}
 use Rattle.form_check.proofs.definitions_apart.Goals as goal
@@ -19,12 +15,6 @@ returns-then-name_again c =
     let a = c.args in
     sym (apart_off same_name (definitions_from_lem c.loop-i.i a.n a.defs.now (omega arith)) (sym c.name_again.ensures ∙ c.if-name_again.true))
     ∙ c.loop-i.invariant ∙ definitions_apart_lem (definitions a.n a.defs.now)
-
-pub overflow_add-i : goal.overflow_add-i
-overflow_add-i c = omega arith
-
-pub loop-i-smaller : goal.loop-i-smaller
-loop-i-smaller c = omega arith
 
 pub loop-i-preserved : goal.loop-i-preserved
 loop-i-preserved c =

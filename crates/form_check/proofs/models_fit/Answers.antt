@@ -1,13 +1,8 @@
--- `form_check::models_fit` meets its contract. The loop's invariant: the models from definition i on, in the particles
--- from `at` on, fit if and only if all do. The measure is what is left of the definitions.
+-- `form_check::models_fit` meets its contract. The loop's invariant: the models from definition i on, in the
+-- particles from `at` on, fit if and only if all do.
 use mathlib.Core.Bool.{not}
-use mathlib.Core.Path.{◌≡◌, refl, sym, ◌∙◌, ap}
-use Prim.Native.Nat.{◌-◌, ◌≤◌}
+use mathlib.Core.Path.{refl, sym, ◌∙◌, ap}
 use native.Mathlib.Omega.{arith}
-use borrow.Author.Rules.{rules}
-use lib.ListN.{drop}
-use Rattle.form_check.specs.FormTests.{models_fit}
-use Rattle.form_check.specs.Bodies.{definitions}
 use Rattle.model_check.specs.Particles.{particles_read}
 use Rattle.form_check.proofs.Reading.{definitions_from_lem, definitions_end}
 use Rattle.model_check.proofs.Reading.{particles_length}
@@ -50,12 +45,6 @@ returns-then-not-model_fits c =
 
 pub overflow_add-at : goal.overflow_add-at
 overflow_add-at c = omega arith
-
-pub overflow_add-i : goal.overflow_add-i
-overflow_add-i c = omega arith
-
-pub loop-i-smaller : goal.loop-i-smaller
-loop-i-smaller c = omega arith
 
 pub loop-i-preserved : goal.loop-i-preserved
 loop-i-preserved c =

@@ -1,12 +1,7 @@
--- `form_check::owners_rise` meets its contract. The loop's invariant: the owners from i on rise from `least` on if and
--- only if all rise. The measure is what is left of the attributes.
-use mathlib.Core.Path.{◌≡◌, refl, sym, ◌∙◌}
-use Prim.Native.Nat.{◌-◌}
+-- `form_check::owners_rise` meets its contract. The loop's invariant: the owners from i on rise from `least` on if
+-- and only if all rise.
+use mathlib.Core.Path.{refl, sym, ◌∙◌}
 use native.Mathlib.Omega.{arith}
-use borrow.Author.Rules.{rules}
-use lib.ListN.{drop}
-use Rattle.form_check.specs.FormTests.{owners_rise}
-use Rattle.form_check.specs.Bodies.{attributes}
 use Rattle.form_check.proofs.Reading.{attributes_from_lem, attributes_end}
 use Rattle.form_check.proofs.Laws.{owners_on, owners_off, owners_end}
 use Rattle.form_check.proofs.owners_rise.Goals as goal
@@ -19,12 +14,6 @@ returns-then-o-least c =
     let a = c.args in
     sym (owners_off c.loop-i.least (attributes_from_lem a.w c.loop-i.i a.a a.attrs.now (omega arith))
     c.attribute_owner_at-o.ensures c.if-o-least.true) ∙ c.loop-i.invariant
-
-pub overflow_add-i : goal.overflow_add-i
-overflow_add-i c = omega arith
-
-pub loop-i-smaller : goal.loop-i-smaller
-loop-i-smaller c = omega arith
 
 pub loop-i-preserved : goal.loop-i-preserved
 loop-i-preserved c =

@@ -4,7 +4,6 @@ use mathlib.Core.Bool.{Bool, ◌&&◌}
 use Prim.Native.Nat.{ℕ}
 use lib.Dec.{eqb}
 use Rattle.rules.specs.Bytes.{Bytes, same}
-use borrow.Author.Rules.{rules}
 use Rattle.form_check.proofs.same_attribute.Goals as goal
 
 pub returns : goal.returns

@@ -2,7 +2,6 @@
 use mathlib.Core.Path.{◌∙◌, ap}
 use Rattle.rules.specs.Bytes.{Bytes, same}
 use Rattle.form_check.proofs.Reading.{definition_name_lem}
-use borrow.Author.Rules.{rules}
 use Rattle.form_check.proofs.same_name.Goals as goal
 
 pub returns : goal.returns

@@ -1,14 +1,12 @@
 -- `instance_search::instance_exists` meets its contract: by the search of Searching in `lookup`: an element row of the
 -- definition ends it with true (`searching_hit`), any other row is passed (`searching_on`), and past the last it is
 -- false (`searching_end`). What is read is the store's (`instance_row_lem`, `instances_any` of InstanceLaws).
-use Rattle.lookup.proofs.Searching.{Searching, searching_start, searching_hit, searching_on, searching_end}
+use Rattle.lookup.proofs.Searching.{searching_start, searching_hit, searching_on, searching_end}
 use Rattle.instance_search.proofs.InstanceLaws.{instance_row_lem, instances_any}
 use Rattle.instance_search.specs.Instances.{instance_row}
 use Rattle.rules.specs.Layout.{row_size}
 use Rattle.rules.specs.Decode.{read_row}
-use Prim.Native.Nat.{◌-◌, ◌<◌}
 use native.Mathlib.Omega.{arith}
-use borrow.Author.Rules.{rules}
 use Rattle.instance_search.proofs.instance_exists.Goals as goal
 
 pub loop-i-init : goal.loop-i-init

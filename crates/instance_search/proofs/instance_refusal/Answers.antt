@@ -4,7 +4,6 @@ use mathlib.Core.Path.{sym, ap, ◌∙◌}
 use mathlib.Core.Bool.{Bool}
 use mathlib.Core.List.{[], ◌∷◌}
 use Rattle.rules.specs.Refusal.{◌if◌, first}
-use borrow.Author.Rules.{rules}
 use Rattle.instance_search.proofs.instance_refusal.Goals as goal
 
 pub returns-then-instance_exists : goal.returns-then-instance_exists

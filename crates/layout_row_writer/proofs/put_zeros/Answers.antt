@@ -13,12 +13,6 @@ loop-i-init c = (refl, refl)
 pub bounds-out-i : goal.bounds-out-i
 bounds-out-i c = omega arith
 
-pub overflow_add-i : goal.overflow_add-i
-overflow_add-i c = omega arith
-
-pub loop-i-smaller : goal.loop-i-smaller
-loop-i-smaller c = omega arith
-
 pub loop-i-preserved : goal.loop-i-preserved
 loop-i-preserved c =
     (zeros_step c.loop-i.out _ c.loop-i.i _ (omega arith) c.loop-i.invariant.0, simp length-set c.loop-i.invariant.1)

@@ -1,16 +1,14 @@
 -- `lookup::find_value` meets its contract: the invariant holds at first (`seek_start` of Laws). The row with the serial
 -- is answered as `found_at` says (`seek_hit`), any other is passed (`seek_past`), and past the last row the answer is 7
 -- (`seek_none`). What `row_at` reads is row i of the store (`row_of`).
-use borrow.Author.Rules.{rules}
 use mathlib.Core.Path.{sym, ap, ◌∙◌, subst}
 use mathlib.Core.List.{List}
-use Prim.Native.Nat.{ℕ, ◌-◌, ◌<◌}
+use Prim.Native.Nat.{ℕ}
 use native.Mathlib.Omega.{arith}
 use Rattle.rules.specs.Decode.{read_row}
 use Rattle.rules.specs.LookUp.{ValueFound}
-use Rattle.lookup.specs.Bodies.{RowsOf}
 use Rattle.lookup.specs.Finding.{Looks}
-use Rattle.lookup.proofs.Laws.{Seeking, seek_start, seek_past, seek_hit, seek_none, row_of}
+use Rattle.lookup.proofs.Laws.{seek_start, seek_past, seek_hit, seek_none, row_of}
 use Rattle.lookup.proofs.find_value.Goals as goal
 
 pub loop-i-init : goal.loop-i-init

@@ -10,7 +10,6 @@ use Rattle.rules.specs.Decode.{read_row}
 use Rattle.layout.specs.Fields.{row_value_at}
 use Rattle.lookup.specs.Bodies.{row_part}
 use Rattle.lookup.proofs.Laws.{looks_as, found_element, found_value}
-use borrow.Author.Rules.{rules}
 use Rattle.lookup.proofs.found_at.Goals as goal
 
 pub returns-then-row_sort-eq1 : goal.returns-then-row_sort-eq1

@@ -1,7 +1,6 @@
 -- `lookup::from_rows` meets its contract: the window from the first row on, as long as the string, is all that stands
 -- from there on (`rows_from_lem` of Laws).
 use Rattle.lookup.proofs.Laws.{rows_from_lem}
-use borrow.Author.Rules.{rules}
 use Rattle.lookup.proofs.from_rows.Goals as goal
 
 pub returns : goal.returns

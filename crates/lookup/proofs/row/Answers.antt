@@ -1,7 +1,6 @@
 -- `lookup::row` meets its contract: the window begins at the place of row i and has the size of a row at the store's
 -- width (`row_window` of Laws).
 use Rattle.lookup.proofs.Laws.{row_window}
-use borrow.Author.Rules.{rules}
 use Rattle.lookup.proofs.row.Goals as goal
 
 pub returns : goal.returns

@@ -1,7 +1,6 @@
 -- `lookup::row_place` meets its contract: the place where the rows begin and the product for the rows before row i add
 -- up to its place, which is in range (`row_placed` of Laws).
 use Rattle.lookup.proofs.Laws.{row_placed}
-use borrow.Author.Rules.{rules}
 use Rattle.lookup.proofs.row_place.Goals as goal
 
 pub returns : goal.returns

@@ -3,7 +3,6 @@
 use mathlib.Core.Path.{ap₂, ◌∙◌}
 use Prim.Native.Nat.{ℕ}
 use lib.ListN.{take, drop}
-use borrow.Author.Rules.{rules}
 use Rattle.lookup.proofs.value_of.Goals as goal
 
 pub returns : goal.returns

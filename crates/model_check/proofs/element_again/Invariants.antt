@@ -1,5 +1,5 @@
 use mathlib.Core.Path.{◌≡◌}
-use Prim.Native.Nat.{◌+◌, ◌-◌, ◌<◌}
+use Prim.Native.Nat.{◌+◌}
 use lib.ListN.{drop}
 use Rattle.rules.specs.Bytes.{any}
 use Rattle.model_check.specs.Particles.{particle_record_at, particles_read, same_element}
@@ -7,9 +7,5 @@ use Rattle.model_check.proofs.element_again.Given as goal
 
 abbrev pub invariant-loop-j : goal.invariant-loop-j
 invariant-loop-j l =
-    (l.j < l.m)
-    × (any (same_element (particle_record_at l.i l.parts)) (drop (l.j + 1) (particles_read l.m l.parts))
-    ≡ any (same_element (particle_record_at l.i l.parts)) (drop (l.i + 1) (particles_read l.m l.parts)))
-
-abbrev pub decreases-loop-j : goal.decreases-loop-j
-decreases-loop-j l = l.m - l.j
+    any (same_element (particle_record_at l.i l.parts)) (drop l.j (particles_read l.m l.parts))
+    ≡ any (same_element (particle_record_at l.i l.parts)) (drop (l.i + 1) (particles_read l.m l.parts))

@@ -1,5 +1,5 @@
 -- `model_check::members` meets its contract. The loop's invariant: `count` and the members from j on make up the
--- members from `from` on. The measure is what is left of the particles.
+-- members from `from` on.
 use Rattle.model_check.specs.Particles.{particle_record_at}
 use mathlib.Core.Path.{◌≡◌}
 use Prim.Native.Nat.{◌<◌}
@@ -21,12 +21,6 @@ returns-then-depth-k c =
 
 pub overflow_add-count : goal.overflow_add-count
 overflow_add-count c = omega arith
-
-pub overflow_add-j : goal.overflow_add-j
-overflow_add-j c = omega arith
-
-pub loop-j-smaller : goal.loop-j-smaller
-loop-j-smaller c = omega arith
 
 pub loop-j-preserved : goal.loop-j-preserved
 loop-j-preserved c =

@@ -1,5 +1,5 @@
 -- `model_check::model_fits` meets its contract. The loop's invariant: the walk from particle i on, with depth d
--- allowed, decides the model. The measure is what is left of the particles.
+-- allowed, decides the model.
 use mathlib.Core.Bool.{not}
 use Rattle.model_check.specs.Particles.{particle_record_at, particles_read}
 use Rattle.model_check.proofs.ModelLaws.{stands_depth, walks_on, walks_off, walks_end, walks_model}
@@ -30,12 +30,6 @@ overflow_add-d c =
       stands_depth a.n c.loop-i.d (particle_record_at c.loop-i.i a.parts.now)
           (drop (c.loop-i.i + 1) (particles_read a.m a.parts.now)) c.particle_stands.ensures (ap not c.if-not-particle_stands.false),
     )
-
-pub overflow_add-i : goal.overflow_add-i
-overflow_add-i c = omega arith
-
-pub loop-i-smaller : goal.loop-i-smaller
-loop-i-smaller c = omega arith
 
 pub loop-i-preserved : goal.loop-i-preserved
 loop-i-preserved c =

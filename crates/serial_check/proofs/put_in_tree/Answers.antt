@@ -2,7 +2,6 @@
 -- its root (`put_root`); the walk meets a row with the serial (`put_twice`); or it comes to an empty place, where row k
 -- is put (`put_below`). What stands below a row is of the first 4096, as `sought` requires (`rising_more`).
 use Prim.Native.Nat.{◌%◌}
-use borrow.Author.Rules.{rules}
 use native.Mathlib.Omega.{arith}
 use Rattle.serial_check.proofs.TreeLaws.{rising_more, put_root, put_below, put_twice}
 use Rattle.serial_check.proofs.put_in_tree.Goals as goal

@@ -1,6 +1,5 @@
 -- `serial_check::serial_at` meets its contract: the contract of `layout::row_serial_at` is this one, with
 -- `serial_at_row` unfolded.
-use borrow.Author.Rules.{rules}
 use Rattle.serial_check.specs.Serials.{serial_at_row}
 use Rattle.serial_check.proofs.serial_at.Goals as goal
 

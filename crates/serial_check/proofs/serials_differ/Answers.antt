@@ -1,11 +1,7 @@
 -- `serial_check::serials_differ` meets its contract: a serial met before refutes the contract's test (`put_refutes` of
 -- TreeLaws; `refuses` of SerialsLaws), another keeps the invariant (`trees_start`, `put_more`), and past the last row
 -- the test holds (`trees_apart`; `accepts`).
-use Prim.Native.Nat.{◌-◌}
-use borrow.Author.Rules.{rules}
-use borrow.Author.Tests.{not-true, not-false}
 use native.Mathlib.Omega.{arith}
-use Rattle.serial_check.specs.Trees.{Trees}
 use Rattle.serial_check.proofs.SerialsLaws.{refuses, accepts}
 use Rattle.serial_check.proofs.TreeLaws.{trees_start, put_refutes, put_more, trees_apart}
 use Rattle.serial_check.proofs.serials_differ.Goals as goal

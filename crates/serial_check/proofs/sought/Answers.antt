@@ -2,11 +2,9 @@
 -- to an empty place (`seek_ends`), or goes on with the row that stands there (`seek_starts`, `seek_on`), whose number
 -- `Rising` bounds.
 use mathlib.Core.Path.{sym, ◌∙◌}
-use Prim.Native.Nat.{suc, ◌-◌}
-use borrow.Author.Rules.{rules}
 use native.Mathlib.Omega.{arith}
 use Rattle.serial_check.specs.Trees.{place_below}
-use Rattle.serial_check.proofs.TreeLaws.{Seek, seek_starts, seek_meets, seek_ends, seek_on}
+use Rattle.serial_check.proofs.TreeLaws.{seek_starts, seek_meets, seek_ends, seek_on}
 use Rattle.serial_check.proofs.sought.Goals as goal
 
 pub loop-w-init : goal.loop-w-init

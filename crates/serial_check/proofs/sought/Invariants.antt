@@ -1,9 +1,5 @@
-use mathlib.Core.Path.{sym, ◌∙◌}
 use Prim.Native.Nat.{suc, ◌-◌}
-use borrow.Author.Rules.{rules}
-use native.Mathlib.Omega.{arith}
-use Rattle.serial_check.specs.Trees.{place_below}
-use Rattle.serial_check.proofs.TreeLaws.{Seek, seek_starts, seek_meets, seek_ends, seek_on}
+use Rattle.serial_check.proofs.TreeLaws.{Seek}
 use Rattle.serial_check.proofs.sought.Given as goal
 
 -- the walk has come to row j with the bits `rest` to go, and no row before it on its way has the serial

@@ -1,6 +1,5 @@
 -- `store_check::before_rows` meets its contract: the bytes through the attributes are those before the tree body
 -- (`before_of` of CallLaws).
-use borrow.Author.Rules.{rules}
 use Rattle.store_check.proofs.CallLaws.{before_of}
 use Rattle.store_check.proofs.before_rows.Goals as goal
 

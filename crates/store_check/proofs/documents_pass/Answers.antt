@@ -1,6 +1,5 @@
 -- `store_check::documents_pass` meets its contract: the header bounds the counts and the rows (`rows_asked` of
 -- CallLaws), and the verdict by the bytes before the tree body and the rows is the walk's answer (`rows_answer`).
-use borrow.Author.Rules.{rules}
 use Rattle.store_check.proofs.CallLaws.{headed, rows_of, rows_asked, rows_answer}
 use Rattle.store_check.proofs.documents_pass.Goals as goal
 

@@ -2,7 +2,6 @@
 -- a field of FormPasses, and the last leaves the circles.
 use mathlib.Core.Path.{ap}
 use mathlib.Core.Bool.{not}
-use borrow.Author.Rules.{rules}
 use Rattle.store_check.proofs.CallLaws.{refused, kept, laid_of, form_by_lem}
 use Rattle.store_check.proofs.form_fits.Goals as goal
 
@@ -19,4 +18,4 @@ pub returns : goal.returns
 returns c =
     form_by_lem (laid_of c.requires.1 c.shared_slice_known-1.given c.shared_slice_known-3-1.given)
     (kept (ap not c.if-not-definitions_fit.false) c.definitions_fit.ensures) (kept (ap not c.if-not-attributes_fit.false) c.attributes_fit.ensures)
-    (kept (ap not c.if-not-bodies_fit.false) c.bodies_fit.ensures) c.heights_of-heights.ensures
+    (kept (ap not c.if-not-bodies_fit.false) c.bodies_fit.ensures) c.heights_of.ensures c.is_some.ensures

@@ -1,5 +1,4 @@
 -- The counts and bodies that the shape cuts out are those of the string.
-use borrow.Author.Rules.{rules}
 use Rattle.form_index.proofs.CutLaws.{cut_of_lem}
 use Rattle.store_check.proofs.CallLaws.{headed, cut_laid, cut_form}
 use Rattle.store_check.proofs.form_passes.Goals as goal

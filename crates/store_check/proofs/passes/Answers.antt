@@ -1,7 +1,6 @@
 -- A test that fails refutes that the string passes, and all of them show it.
 use mathlib.Core.Path.{ap}
 use mathlib.Core.Bool.{not}
-use borrow.Author.Rules.{rules}
 use Rattle.store_check.proofs.CallLaws.{header_kept, headed, headless, formless, rowless, passed}
 use Rattle.store_check.proofs.passes.Goals as goal
 

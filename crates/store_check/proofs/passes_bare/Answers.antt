@@ -2,7 +2,6 @@
 -- of CallLaws), and where it fits and there are no rows the form decides (`bare_passed`).
 use mathlib.Core.Path.{ap}
 use mathlib.Core.Bool.{not}
-use borrow.Author.Rules.{rules}
 use Rattle.store_check.proofs.CallLaws.{header_kept, headed, headless, bare_passed}
 use Rattle.store_check.proofs.passes_bare.Goals as goal
 

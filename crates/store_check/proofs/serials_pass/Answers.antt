@@ -1,6 +1,5 @@
 -- `store_check::serials_pass` meets its contract: the header bounds the count (`serials_asked` of CallLaws), and width,
 -- count and rows are the store's own (`serials_in_lem`).
-use borrow.Author.Rules.{rules}
 use Rattle.store_check.proofs.CallLaws.{headed, rows_of, serials_asked, serials_in_lem}
 use Rattle.store_check.proofs.serials_pass.Goals as goal
 

@@ -1,26 +1,28 @@
 -- The sort and the value of an attribute, as the code reads them.
 use Prim.Native.Nat.{ℕ, zero, suc, min, ◌<◌, ◌≤◌}
 use mathlib.Core.Path.{◌≡◌, refl, sym, ap, ap₂, ◌∙◌}
-use mathlib.Core.Bool.{Bool, true, false, false≢true}
+use mathlib.Core.Bool.{Bool, true, false}
 use mathlib.Core.Logic.{◌⊎◌, inl, inr}
 use mathlib.Core.Option.{Option, none, some}
 use mathlib.Core.List.{[], ◌∷◌}
 use native.Mathlib.Omega.{arith}
 use native.Mathlib.Nat.{le_of_suc-le-suc, not-suc-le-zero}
+use Rattle.std.specs.Prelude as code
+use Rattle.std.specs.Prelude.{unwrap_or, is_some}
 use lib.ListN.{length, take, drop, length-take}
 use lib.Seq.{sets, take-nil, take_all}
 use Rattle.rules.specs.Bytes.{Bytes, ascii}
-use Rattle.rules.specs.WellFormed.{in_name, is_there}
+use Rattle.rules.specs.WellFormed.{in_name}
 use Rattle.rules.specs.Layout.{attribute_bytes}
 use Rattle.rules.proofs.Words.{below_or}
 use Rattle.codec.specs.Laid.{Laid}
 use Rattle.codec.proofs.Writers.{laid_as, sets_tail}
 use Rattle.layout.specs.RecordBytes.{attribute_of}
-use Rattle.text_scan.specs.Scan.{starts_with, front_while, after_while, no_quote, unescaped, value_or, value_of_raw, Unescapes}
+use Rattle.text_scan.specs.Scan.{starts_with, front_while, after_while, no_quote, unescaped, value_or, value_of_raw, length_of, Unescapes}
 use Rattle.text_scan.proofs.ScanLaws.{leading_take}
 use Rattle.declaration_scan.specs.Declared.{name_here, after_declared, declared_sort, declared_value, attribute_of_line}
 use Rattle.declaration_scan.specs.Names.{NameOf}
-use Rattle.attribute_scan.specs.Values.{quoted_value, value_size}
+use Rattle.attribute_scan.specs.Values.{quoted_value}
 
 -- ---- the sort
 abbrev sort_by : Bool → Bool → ℕ
@@ -28,17 +30,6 @@ sort_by a b = elim a [ true ↦ 0 | false ↦ elim b [ true ↦ 1 | false ↦ 2 
 
 abbrev value_by : Bool → Bool → Bytes → Bytes
 value_by a b v = elim a [ true ↦ [] | false ↦ elim b [ true ↦ ascii "-" | false ↦ v ] ]
-
-module _ (txt : Bytes) (a : Bool) (e : a ≡ starts_with (ascii "#I") txt) where
-  pub sort_implied : a ≡ true → 0 ≡ declared_sort txt
-  sort_implied h = λ i. sort_by ((sym h ∙ e) i) (starts_with (ascii "#R") txt)
-
-  module _ (h : a ≡ false) (b : Bool) (f : b ≡ starts_with (ascii "#R") txt) where
-    pub sort_required : b ≡ true → 1 ≡ declared_sort txt
-    sort_required g = λ i. sort_by ((sym h ∙ e) i) ((sym g ∙ f) i)
-
-    pub sort_fixed : b ≡ false → 2 ≡ declared_sort txt
-    sort_fixed g = λ i. sort_by ((sym h ∙ e) i) ((sym g ∙ f) i)
 
 -- ---- the record, by the sort
 abbrev Declares : ℕ → ℕ → Bytes → Bytes → Bytes → ℕ → ℕ → Bytes → Type 0
@@ -82,12 +73,6 @@ module _ (w owner : ℕ) (name txt : Bytes) (sort : ℕ) (e : sort ≡ declared_
       by false p false q = declares_as 2 (take w (quoted_value txt)) (λ i. sort_by (p i) (q i)) (λ i. take w (value_by (p i) (q i) (value_of_raw (front_while no_quote (drop 8 txt))))) l
 
 -- ---- the value
-pub size_exact : (exact : Bool) (length w n : ℕ) → exact ≡ true → n ≡ min length w → n ≡ value_size exact length w
-size_exact exact length w n h e = e ∙ (λ i. elim (sym h i) [ true ↦ min length w | false ↦ 0 ])
-
-pub size_none : (exact : Bool) (length w : ℕ) → exact ≡ false → 0 ≡ value_size exact length w
-size_none exact length w h = λ i. elim (sym h i) [ true ↦ min length w | false ↦ 0 ]
-
 -- the front of what was stored
 front_sets : (k : ℕ) (l v : Bytes) → k ≤ length v → k ≤ length l → take k (sets l 0 v) ≡ take k v
 front_sets zero l v p q = refl
@@ -105,26 +90,31 @@ take_least w v = by (below_or (length v) w)
         ap (λ (k : ℕ). take k v) e ∙ take_all (length v) v (omega arith) ∙ sym (take_all w v (omega arith))
     by (inr h) = let e : min (length v) w ≡ w = omega arith in ap (λ (k : ℕ). take k v) e
 
-nothing_there : (o : Option Bytes) → is_there o ≡ false → value_or o ≡ []
-nothing_there none h = refl
-nothing_there (some v) h = absurd (false≢true (sym h))
+-- how long a value is, nothing where there is none
+value_long : (o : Option Bytes) → unwrap_or (length_of o) 0 ≡ length (value_or o)
+value_long none = refl
+value_long (some v) = refl
 
-pub value_kept : (raw value value' part : Bytes) (exact : Bool) (n w k : ℕ) → Unescapes raw value exact n value' → length value ≡ 256 → w < 256
-    → k ≡ value_size exact n w → part ≡ take k value' → part ≡ take w (value_of_raw raw)
-value_kept raw value value' part exact n w k u long small s p = by exact refl
+pub value_kept : (raw value value' part : Bytes) (r : code.Option ℕ) (n w k : ℕ) → Unescapes raw value r value' → length value ≡ 256 → w < 256
+    → n ≡ unwrap_or r 0 → k ≡ min n w → part ≡ take k value' → part ≡ take w (value_of_raw raw)
+value_kept raw value value' part r n w k u long small z s p = by (unescaped 0 raw) refl
   where
     v : Bytes
     v = value_of_raw raw
 
-    by : (b : Bool) → exact ≡ b → part ≡ take w (value_of_raw raw)
-    by true e =
-        let kept : k ≡ min (length v) w = s ∙ (λ i. elim (e i) [ true ↦ min n w | false ↦ 0 ]) ∙ ap (λ (m : ℕ). min m w) (u.size e) in
+    kept : k ≡ min (length v) w
+    kept = s ∙ ap (λ (m : ℕ). min m w) (z ∙ ap (λ (o : code.Option ℕ). unwrap_or o 0) u.is ∙ value_long (unescaped 0 raw))
+
+    by : (o : Option Bytes) → unescaped 0 raw ≡ o → part ≡ take w v
+    by none e =
+        let none : v ≡ [] = ap value_or e in
+        let low : k ≡ 0 = omega (arith, kept, ap length none) in
+        p ∙ ap (λ (m : ℕ). take m value') low ∙ sym (take-nil w) ∙ ap (take w) (sym none)
+    by (some x) e =
+        let there : is_some r ≡ true = ap is_some (u.is ∙ ap length_of e) in
         let low : min (length v) w ≤ length v = omega arith in
         let room : min (length v) w ≤ length value = omega arith in
-        p ∙ ap₂ take kept (u.stored e) ∙ front_sets (min (length v) w) value v low room ∙ take_least w v
-    by false e =
-        p ∙ ap (λ (m : ℕ). take m value') (s ∙ (λ i. elim (e i) [ true ↦ min n w | false ↦ 0 ])) ∙ sym (take-nil w)
-        ∙ ap (take w) (sym (nothing_there (unescaped 0 raw) (sym u.is ∙ e)))
+        p ∙ ap₂ take kept (u.stored there) ∙ front_sets (min (length v) w) value v low room ∙ take_least w v
 
 -- the quoted value, by its parts
 pub value_quoted : (txt quoted raw part : Bytes) (n : ℕ) → quoted ≡ drop 8 txt → n ≡ length (front_while no_quote quoted) → raw ≡ take n quoted → (w : ℕ) → part ≡ take w (value_of_raw raw)

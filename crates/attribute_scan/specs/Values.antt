@@ -1,12 +1,8 @@
 -- The value of an attribute in the text of its line.
-use Rattle.std.specs.Prelude.{ℕ, min, Bool, true, false, drop}
+use Rattle.std.specs.Prelude.{drop}
 use Rattle.rules.specs.Bytes.{Bytes}
 use Rattle.text_scan.specs.Scan.{front_while, no_quote, value_of_raw}
 
 -- `#FIXED "` has eight bytes, and the value ends at the next `"`
 unfoldable pub quoted_value : Bytes → Bytes
 quoted_value txt = value_of_raw (front_while no_quote (drop 8 txt))
-
--- how many bytes of a value are kept, of one of `length` bytes
-abbrev pub value_size : Bool → ℕ → ℕ → ℕ
-value_size exact length w = elim exact [ true ↦ min length w | false ↦ 0 ]

@@ -7,7 +7,7 @@ ghost use Rattle.codec.specs.Laid.{Laid};
 ghost use Rattle.layout.specs.Bodies.{Width};
 ghost use Rattle.layout.specs.RecordBytes.{attribute_of};
 ghost use Rattle.declaration_scan.specs.Declared.{declared_sort, declared_value, attribute_of_line};
-ghost use Rattle.attribute_scan.specs.Values.{quoted_value, value_size};
+ghost use Rattle.attribute_scan.specs.Values.{quoted_value};
 
 // The code of the sort that stands after the type.
 fn declared_sort(text: &[u8]) -> u8
@@ -22,24 +22,17 @@ fn declared_sort(text: &[u8]) -> u8
     2
 }
 
-// How many bytes of a value are kept: none of one that is no escape.
-fn value_size(exact: bool, length: usize, w: usize) -> usize
-    ensures { result ≡ value_size exact length w }
-{
-    if exact { layout::least(length, w) } else { 0 }
-}
-
-// Writes an attribute whose value stands in quotes after `#FIXED`.
+// Writes an attribute whose value stands in quotes after `#FIXED`; one that is no escape of a value is kept as none.
 fn put_fixed(w: usize, owner: u8, name: &[u8], text: &[u8], out: &mut [u8], at: usize) -> usize
     requires { Width w × (length name.now ≤ name_width) × (at < 1152921504606846976) }
     ensures { Laid (attribute_bytes w (attribute_of owner name.now 2 (take w (quoted_value text.now)))) out.old at result out.new }
 {
     let quoted = codec::after(text, 8);
-    let raw = codec::first(quoted, text_scan::length_before(quoted, 34));
+    let raw = codec::first(quoted, text_scan::length_before(quoted, b'"'));
     let mut value = [0; 256];
-    let read = text_scan::unescape(raw, &mut value);
-    let n = value_size(read.exact, read.length, w);
-    layout_writer::put_attribute(w, owner, name, 2, codec::first(&value, n), out, at)
+    let n = text_scan::unescape(raw, &mut value).unwrap_or(0);
+    let kept = codec::first(&value, layout::least(n, w));
+    layout_writer::put_attribute(w, owner, name, 2, kept, out, at)
 }
 
 // Writes an attribute by what stands after its type; a required one is filled with `-`.

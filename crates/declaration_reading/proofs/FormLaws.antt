@@ -6,6 +6,7 @@ use mathlib.Core.List.{List, [], ◌∷◌, ◌++◌, map, append-nil}
 use native.Mathlib.Omega.{arith}
 use borrow.Author.Tests.{leb-true}
 use lib.Dec.{leb}
+use Rattle.std.specs.Prelude.{Option, Some, None}
 use lib.ListN.{length, take, drop, length-take, length-append}
 use lib.Seq.{sets-eq, take_at}
 use Rattle.rules.specs.Bytes.{Bytes}
@@ -165,13 +166,13 @@ unfolding form_head contents
 head_size version w d p a l = omega (arith, l.next)
 
 module _ (version w : ℕ) (txt : Bytes) {d p a : ℕ} {low : Bool} (c : Counted (declarations txt) d p a low) (b : Bool) (e : b ≡ (leb d 64 && (leb p 256 && (low && leb a 64)))) where
-  abbrev Reads : Bytes → ℕ → Bytes → Type 0
+  abbrev Reads : Bytes → Option ℕ → Bytes → Type 0
   Reads form r form' = FormRead (flat_bytes w (declared_form version w txt)) (within_ceilings (declared_form version w txt)) form r form'
 
-  pub form_refused : b ≡ false → {form : Bytes} → Reads form 0 form
+  pub form_refused : b ≡ false → {form : Bytes} → Reads form None form
   form_refused h = record { written = λ t. absurd (false≢true (sym h ∙ ceilings_are txt c b e version w ∙ t)); refused = λ t. refl }
 
-  pub form_read_lem : b ≡ true → {form o₁ o₂ : Bytes} {at r : ℕ} → Laid (form_head version w d p a) form 0 at o₁ → Laid (form_bodies w (declarations txt)) o₁ at r o₂ → Reads form r o₂
+  pub form_read_lem : b ≡ true → {form o₁ o₂ : Bytes} {at r : ℕ} → Laid (form_head version w d p a) form 0 at o₁ → Laid (form_bodies w (declarations txt)) o₁ at r o₂ → Reads form (Some r) o₂
   form_read_lem h x y =
       record {
         written = λ t. laid_as

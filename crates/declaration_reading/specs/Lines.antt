@@ -1,5 +1,5 @@
 -- The lines of a text from the front, and what the declarations among them say.
-use Rattle.std.specs.Prelude.{ℕ, suc, ◌+◌, ◌*◌, ◌<◌, ◌≤◌, ◌≡◌, Bool, true, false, List, [], ◌++◌, map, length, drop}
+use Rattle.std.specs.Prelude.{ℕ, suc, ◌+◌, ◌*◌, ◌<◌, ◌≤◌, ◌≡◌, Bool, true, false, List, [], ◌++◌, map, length, drop, Option, None, IsSomeAnd}
 use Rattle.rules.specs.Bytes.{Bytes}
 use Rattle.rules.specs.Layout.{le, definition_bytes, particle_bytes, attribute_bytes, each}
 use Rattle.rules.specs.Decode.{flat_name}
@@ -80,7 +80,7 @@ pub record Ready (body : Body) (defs : Bytes) (at o : ℕ) (ls : List Bytes) : T
   pub fits : FormFits o ls
   pub room : at + length (said_body body defs o ls) < 1152921504606846976
 
--- the form is written, or what stands there counts for nothing
-pub record FormRead (bs : Bytes) (fits : Bool) (form : Bytes) (r : ℕ) (form' : Bytes) : Type 0 where
-  pub written : fits ≡ true → Laid bs form 0 r form'
-  pub refused : fits ≡ false → r ≡ 0
+-- the form is written, or there is none
+pub record FormRead (bs : Bytes) (fits : Bool) (form : Bytes) (r : Option ℕ) (form' : Bytes) : Type 0 where
+  pub written : fits ≡ true → IsSomeAnd r (λ n. Laid bs form 0 n form')
+  pub refused : fits ≡ false → r ≡ None

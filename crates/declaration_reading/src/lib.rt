@@ -42,7 +42,8 @@ fn line_span(text: &[u8]) -> usize
 
 // ---- the form, measured
 
-// What declarations say of a form, counted, and whether no particle is too deep.
+// What declarations say of a form, counted, and whether no particle is too deep. A flag, and no `Option`: it is one of
+// the four tests of `within`.
 #[derive(Clone, Copy)]
 struct Counts {
     definitions: usize,
@@ -192,12 +193,12 @@ fn put_body(body: Body, defs: &[u8], text: &[u8], out: &mut [u8], start: usize) 
 // ---- the form
 
 // Whether so many records are within the ceilings.
-fn within(definitions: usize, particles: usize, attributes: usize, shallow: bool) -> bool
-    ensures { result ≡ (leb definitions 64 && (leb particles 256 && (shallow && leb attributes 64))) }
+fn within(counts: Counts) -> bool
+    ensures { result ≡ (leb counts.definitions 64 && (leb counts.particles 256 && (counts.shallow && leb counts.attributes 64))) }
 {
-    (definitions <= layout::MAX_DEFINITIONS)
-        & ((particles <= layout::MAX_PARTICLES)
-            & (shallow & (attributes <= layout::MAX_ATTRIBUTES)))
+    (counts.definitions <= layout::MAX_DEFINITIONS)
+        & ((counts.particles <= layout::MAX_PARTICLES)
+            & (counts.shallow & (counts.attributes <= layout::MAX_ATTRIBUTES)))
 }
 
 // Writes the header of a store without rows, whose next serial is 1.
@@ -224,8 +225,8 @@ fn put_bodies(w: usize, d: usize, text: &[u8], form: &mut [u8], at: usize) -> us
 }
 
 /// Reads the form that the declarations of a text say, of values of w bytes, as a store without rows; returns its
-/// length, or 0 if it is not within the ceilings.
-pub fn read_form(version: u32, w: usize, text: &[u8], form: &mut [u8]) -> usize
+/// length, or none if it is not within the ceilings.
+pub fn read_form(version: u32, w: usize, text: &[u8], form: &mut [u8]) -> Option<usize>
     requires { Width w }
     ensures { FormRead (flat_bytes w (declared_form version w text.now)) (within_ceilings (declared_form version w text.now))
         form.old result form.new }
@@ -234,9 +235,9 @@ pub fn read_form(version: u32, w: usize, text: &[u8], form: &mut [u8]) -> usize
     let d = counts.definitions;
     let p = counts.particles;
     let a = counts.attributes;
-    if !within(d, p, a, counts.shallow) {
-        return 0;
+    if !within(counts) {
+        return None;
     }
     let head = put_head(version, w, d, p, a, form);
-    put_bodies(w, d, text, form, head)
+    Some(put_bodies(w, d, text, form, head))
 }

@@ -1,43 +1,24 @@
 -- Marks, names and kinds as the code reads them.
-use Prim.Native.Nat.{ℕ, suc, ◌+◌, ◌-◌, ◌*◌, ◌<◌, ◌≤◌}
+use Prim.Native.Nat.{ℕ, zero, suc, ◌+◌, ◌-◌, ◌*◌, ◌<◌, ◌≤◌}
 use mathlib.Core.Path.{◌≡◌, refl, sym, ap, ◌∙◌}
 use mathlib.Core.Bool.{Bool, true, false}
 use mathlib.Core.List.{[], ◌∷◌, map}
-use borrow.Author.Tests.{eq-eqb, ne_eqb}
 use native.Mathlib.Omega.{arith}
+use native.Mathlib.Numerals.{add-one}
 use native.Mathlib.Nat.{add-zero, zero-add}
-use lib.Dec.{eqb}
-use lib.ListN.{length, take, drop, length-take, length-drop}
-use Rattle.rules.specs.Bytes.{Bytes, same, ascii}
+use lib.ListN.{length, take, drop, length-take}
+use lib.Seq.{drop-drop}
+use Rattle.std.specs.Prelude.{Option, Some, None, MatchOption}
+use Rattle.rules.specs.Bytes.{Bytes, same}
 use Rattle.rules.specs.Store.{Form}
-use Rattle.rules.specs.Layout.{index_of}
+use Rattle.rules.specs.Layout.{definition_size, index_of}
 use Rattle.rules.specs.WellFormed.{in_name, definition_name}
 use Rattle.rules.specs.Decode.{read_definition}
-use Rattle.codec.proofs.Writers.{tail_seen}
+use Rattle.layout.specs.Bodies.{record_at}
 use Rattle.text_scan.proofs.ScanLaws.{leading_take, trailing_drop}
-use Rattle.text_scan.specs.Scan.{first_byte, starts_with, front_while, after_while}
-use Rattle.declaration_scan.specs.Declared.{mark_code, name_here, place_among, declared_name, after_declared, declared_kind}
+use Rattle.text_scan.specs.Scan.{front_while, after_while}
+use Rattle.declaration_scan.specs.Declared.{name_here, place_among, declared_name, after_declared}
 use Rattle.declaration_scan.specs.Names.{NameOf, written_names, PlaceIn}
-
--- the code, by the three tests
-abbrev mark_by : Bool → Bool → Bool → ℕ
-mark_by a b c = elim a [ true ↦ 1 | false ↦ elim b [ true ↦ 2 | false ↦ elim c [ true ↦ 3 | false ↦ 0 ] ] ]
-
-module _ (txt : Bytes) (x : ℕ) (e : x ≡ first_byte txt) where
-  mark_is : mark_by (eqb x 63) (eqb x 42) (eqb x 43) ≡ mark_code txt
-  mark_is = ap (λ (z : ℕ). mark_by (eqb z 63) (eqb z 42) (eqb z 43)) e
-
-  pub mark_optional : x ≡ 63 → 1 ≡ mark_code txt
-  mark_optional h = (λ i. mark_by (sym (eq-eqb x 63 h) i) (eqb x 42) (eqb x 43)) ∙ mark_is
-
-  pub mark_any : (x ≡ 63 → ⊥) → x ≡ 42 → 2 ≡ mark_code txt
-  mark_any n h = (λ i. mark_by (sym (ne_eqb x 63 n) i) (sym (eq-eqb x 42 h) i) (eqb x 43)) ∙ mark_is
-
-  pub mark_some : (x ≡ 63 → ⊥) → (x ≡ 42 → ⊥) → x ≡ 43 → 3 ≡ mark_code txt
-  mark_some n m h = (λ i. mark_by (sym (ne_eqb x 63 n) i) (sym (ne_eqb x 42 m) i) (sym (eq-eqb x 43 h) i)) ∙ mark_is
-
-  pub mark_none : (x ≡ 63 → ⊥) → (x ≡ 42 → ⊥) → (x ≡ 43 → ⊥) → 0 ≡ mark_code txt
-  mark_none n m h = (λ i. mark_by (sym (ne_eqb x 63 n) i) (sym (ne_eqb x 42 m) i) (sym (ne_eqb x 43 h) i)) ∙ mark_is
 
 -- ---- names
 pub name_front : (txt a r : Bytes) (n : ℕ) → n ≡ length (front_while in_name txt) → a ≡ take n txt → r ≡ take 16 a → NameOf (name_here txt) r
@@ -54,70 +35,54 @@ name_declared l a r e n = record { value = n.value ∙ ap name_here e; short = n
 pub rest_declared : (l a b r : Bytes) → a ≡ drop 10 l → b ≡ after_while in_name a → r ≡ drop 1 b → r ≡ after_declared l
 rest_declared l a b r e f g = g ∙ ap (drop 1) (f ∙ ap (after_while in_name) e)
 
--- ---- the loop over definitions that looks for a name: it is past the first i, and t is what is left
-pub record Placing (name defs : Bytes) (n : ℕ) (t : Bytes) (i : ℕ) : Type 0 where
-  pub rest : place_among name (written_names n defs) ≡ i + place_among name (written_names (n - i) t)
-  pub whole : 20 * (n - i) ≤ length t
-  pub upto : i ≤ n
+-- ---- the first definition of a name
+-- the first i definitions do not have it
+record Placing (name defs : Bytes) (n i : ℕ) : Type 0 where
+  rest : place_among name (written_names n defs) ≡ i + place_among name (written_names (n - i) (drop (20 * i) defs))
+  upto : i ≤ n
 
-pub placing_start : (name defs : Bytes) (n : ℕ) → 20 * n ≤ length defs → Placing name defs n defs 0
-placing_start name defs n h =
-    let all : n - 0 ≡ n = omega arith in
-    record { rest = rw (all, zero-add); whole = omega arith; upto = omega arith }
+abbrev named_at : Bytes → Bytes → ℕ → Bool
+named_at name defs i = same name (read_definition (record_at definition_size i defs)).name
 
-module _ {name defs : Bytes} {n : ℕ} {t : Bytes} {i : ℕ} (p : Placing name defs n t i) where
-  module _ (h : i < n) where
-    pub placing_first : 20 ≤ length t
-    placing_first = omega (arith, p.whole)
+module _ (name defs : Bytes) (n : ℕ) where
+  module _ {i : ℕ} (p : Placing name defs n i) (h : i < n) where
+    abbrev later : ℕ
+    later = place_among name (written_names (n - (i + 1)) (drop (20 * (i + 1)) defs))
 
-    module _ (b : Bool) (e : b ≡ same name (read_definition (take 20 t)).name) where
-      abbrev later : ℕ
-      later = place_among name (written_names (n - (i + 1)) (drop 20 t))
+    placed_by : place_among name (written_names n defs) ≡ i + elim (named_at name defs i) [ true ↦ 0 | false ↦ suc later ]
+    unfolding place_among written_names
+    placed_by =
+        let more : n - i ≡ suc (n - (i + 1)) = omega arith in
+        let next : 20 * i + 20 ≡ 20 * (i + 1) = omega arith in
+        p.rest ∙ ap (λ (k : ℕ). i + place_among name (written_names k (drop (20 * i) defs))) more
+        ∙ ap (λ (l : Bytes). i + elim (named_at name defs i) [ true ↦ 0 | false ↦ suc (place_among name (written_names (n - (i + 1)) l)) ])
+        (drop-drop 20 (20 * i) defs ∙ ap (λ (k : ℕ). drop k defs) next)
 
-      -- by the name of the first definition that is left
-      placed_by : place_among name (written_names n defs) ≡ i + elim b [ true ↦ 0 | false ↦ suc later ]
-      unfolding place_among written_names
-      placed_by =
-          let more : n - i ≡ suc (n - (i + 1)) = omega arith in
-          p.rest ∙ ap (λ (k : ℕ). i + place_among name (written_names k t)) more
-          ∙ ap (λ (z : Bool). i + elim z [ true ↦ 0 | false ↦ suc later ]) (sym e)
+    placing_hit : named_at name defs i ≡ true → i ≡ place_among name (written_names n defs)
+    placing_hit g = sym (placed_by ∙ ap (λ (b : Bool). i + elim b [ true ↦ 0 | false ↦ suc later ]) g ∙ add-zero i)
 
-      pub placing_hit : b ≡ true → PlaceIn n (place_among name (written_names n defs)) i
-      placing_hit g = record { value = sym (placed_by ∙ (λ j. i + elim (g j) [ true ↦ 0 | false ↦ suc later ]) ∙ add-zero i); small = omega arith }
+    placing_on : named_at name defs i ≡ false → Placing name defs n (i + 1)
+    placing_on g =
+        let on : place_among name (written_names n defs) ≡ i + suc later = placed_by ∙ ap (λ (b : Bool). i + elim b [ true ↦ 0 | false ↦ suc later ]) g in
+        record { rest = omega (arith, on); upto = omega arith }
 
-      pub placing_on : b ≡ false → Placing name defs n (take (length t - 20) (drop 20 t)) (i + 1)
-      placing_on g =
-          let on : place_among name (written_names n defs) ≡ i + suc later = placed_by ∙ (λ j. i + elim (g j) [ true ↦ 0 | false ↦ suc later ]) in
-          record {
-            rest = rw (tail_seen t 20) (omega (arith, on));
-            whole = rw (tail_seen t 20) (omega (arith, p.whole, length-drop 20 t));
-            upto = omega arith;
-          }
+  placing_to : (i : ℕ) → i ≤ n → ((k : ℕ) → k < i → named_at name defs k ≡ false) → Placing name defs n i
+  placing_to zero h f = let all : n - 0 ≡ n = omega arith in record { rest = rw (all, zero-add); upto = omega arith }
+  placing_to (suc i) h f = rw (← add-one i) (placing_on (placing_to i (omega arith) (λ k l. f k (omega arith))) (omega arith) (f i (omega arith)))
 
-  pub placing_end : n ≤ i → PlaceIn n (place_among name (written_names n defs)) n
+  placing_end : Placing name defs n n → place_among name (written_names n defs) ≡ n
   unfolding place_among written_names
-  placing_end h =
-      let past : n - i ≡ 0 = omega arith in
-      let none : place_among name (written_names n defs) ≡ i + 0 = p.rest ∙ ap (λ (k : ℕ). i + place_among name (written_names k t)) past in
-      record { value = omega (arith, none, p.upto); small = omega arith }
+  placing_end p =
+      let past : n - n ≡ 0 = omega arith in
+      p.rest ∙ ap (λ (k : ℕ). n + place_among name (written_names k (drop (20 * n) defs))) past ∙ add-zero n
 
--- ---- kinds
-abbrev kind_by : Bool → Bool → ℕ
-kind_by a b = elim a [ true ↦ 0 | false ↦ elim b [ true ↦ 1 | false ↦ 2 ] ]
-
-module _ (c : Bytes) (x : ℕ) (e : x ≡ first_byte c) where
-  kind_is : kind_by (eqb x 69) (starts_with (ascii "(#") c) ≡ declared_kind c
-  kind_is = ap (λ (z : ℕ). kind_by (eqb z 69) (starts_with (ascii "(#") c)) e
-
-  pub kind_empty : x ≡ 69 → 0 ≡ declared_kind c
-  kind_empty h = (λ i. kind_by (sym (eq-eqb x 69 h) i) (starts_with (ascii "(#") c)) ∙ kind_is
-
-  module _ (n : x ≡ 69 → ⊥) (b : Bool) (f : b ≡ starts_with (ascii "(#") c) where
-    pub kind_pcdata : b ≡ true → 1 ≡ declared_kind c
-    kind_pcdata h = (λ i. kind_by (sym (ne_eqb x 69 n) i) ((sym h ∙ f) i)) ∙ kind_is
-
-    pub kind_complex : b ≡ false → 2 ≡ declared_kind c
-    kind_complex h = (λ i. kind_by (sym (ne_eqb x 69 n) i) ((sym h ∙ f) i)) ∙ kind_is
+  -- what a search from the front says
+  pub place_found : (r : Option ℕ)
+      → MatchOption r ((k : ℕ) → 0 ≤ k → k < n → named_at name defs k ≡ false)
+      (λ i. (0 ≤ i) × (i < n) × (named_at name defs i ≡ true) × ((k : ℕ) → 0 ≤ k → k < i → named_at name defs k ≡ false))
+      → PlaceIn n (place_among name (written_names n defs)) r
+  place_found None f = record { found = placing_end (placing_to n (omega arith) (λ k h. f k (omega arith) h)) }
+  place_found (Some i) (z, h, e, f) = record { found = (placing_hit (placing_to i (omega arith) (λ k l. f k (omega arith) l)) h e, h) }
 
 -- ---- the place of a name among a form's is its index
 pub place_index : (n : Bytes) (form : Form) → place_among n (map definition_name form) ≡ index_of n form

@@ -1,7 +1,6 @@
 -- The form that the declarations of a text would be of, as records: total, and with as few tests as can be, since what
 -- is read counts only if it passes the check and prints as the text.
-use Rattle.std.specs.Prelude.{ℕ, zero, suc, ◌+◌, ◌-◌, ◌%◌, Bool, true, false, ◌&&◌, List, [], ◌∷◌, ◌++◌, map, eqb, length, take, drop}
-use Rattle.std.proofs.Math.Option.{Option}
+use Rattle.std.specs.Prelude.{ℕ, zero, suc, ◌-◌, ◌%◌, Bool, true, false, List, [], ◌∷◌, ◌++◌, map, eqb, length, take, drop}
 use Rattle.rules.specs.Bytes.{Bytes, ascii, same}
 use Rattle.rules.specs.Preorder.{Deep}
 use Rattle.rules.specs.Layout.{name_width, FlatDefinition, FlatParticle, FlatAttribute, FlatStore}

@@ -3,24 +3,25 @@
 
 ghost use Rattle.std.specs.Prelude.{◌≡◌, ◌*◌, ◌≤◌, length};
 ghost use Rattle.rules.specs.Bytes.{same};
+ghost use Rattle.rules.specs.Layout.{quantifier_code};
 ghost use Rattle.rules.specs.Decode.{read_definition};
 ghost use Rattle.rules.specs.WellFormed.{in_name};
 ghost use Rattle.text_scan.specs.Scan.{after_while};
 ghost use Rattle.declaration_scan.specs.Declared.{mark_code, name_here, place_among, declared_name, after_declared, declared_kind};
 ghost use Rattle.declaration_scan.specs.Names.{NameOf, written_names, PlaceIn};
 
-/// The code of the quantifier whose mark stands here.
-pub fn mark_code(text: &[u8]) -> u8
-    ensures { result ≡ mark_code text.now }
+use rules::Quantifier;
+
+/// The quantifier whose mark stands here.
+pub fn mark_code(text: &[u8]) -> Quantifier
+    ensures { quantifier_code result ≡ mark_code text.now }
 {
-    let x = codec::byte(text, 0);
-    if x == 63 {
-        return 1;
+    match codec::byte(text, 0) {
+        b'?' => Quantifier::Qmark,
+        b'*' => Quantifier::Star,
+        b'+' => Quantifier::Plus,
+        _ => Quantifier::None,
     }
-    if x == 42 {
-        return 2;
-    }
-    if x == 43 { 3 } else { 0 }
 }
 
 /// The name that stands here, as far as a name goes.
@@ -46,21 +47,12 @@ fn is_named(rec: &[u8], name: &[u8]) -> bool
     codec::equal(name, layout::definition_name(rec))
 }
 
-/// Where the definition of a name stands among the first n, or n.
-pub fn definition_place(defs: &[u8], n: usize, name: &[u8]) -> usize
+/// Where the definition of a name stands among the first n, if one of them has it.
+pub fn definition_place(defs: &[u8], n: usize, name: &[u8]) -> Option<usize>
     requires { (n ≤ 64) × (20 * n ≤ length defs.now) }
     ensures { PlaceIn n (place_among name.now (written_names n defs.now)) result }
 {
-    let mut t = defs;
-    let mut i = 0;
-    while i < n {
-        if is_named(&t[..layout::DEFINITION_SIZE], name) {
-            return i;
-        }
-        t = &t[layout::DEFINITION_SIZE..];
-        i += 1;
-    }
-    n
+    (0..n).find(|&i| is_named(layout::definition_at(defs, i), name))
 }
 
 // ---- the line of a declaration
@@ -83,7 +75,7 @@ pub fn after_declared(line: &[u8]) -> &[u8]
 pub fn declared_kind(content: &[u8]) -> u8
     ensures { result ≡ declared_kind content.now }
 {
-    if codec::byte(content, 0) == 69 {
+    if codec::byte(content, 0) == b'E' {
         return 0;
     }
     if text_scan::starts_with(content, b"(#") {

@@ -1,5 +1,5 @@
 -- A store that prints as the front of a text.
-use Rattle.std.specs.Prelude.{ℕ, ◌≡◌, Bool, true, ◌&&◌, leb, length}
+use Rattle.std.specs.Prelude.{ℕ, ◌≡◌, Bool, ◌&&◌, leb, length, Option, is_some, IfSome}
 use Rattle.rules.specs.Bytes.{Bytes}
 use Rattle.printing.specs.Texts.{text_of}
 use Rattle.text_scan.specs.Scan.{starts_with}
@@ -12,7 +12,7 @@ form_text_room = 24576
 unfoldable pub front_stands : Bytes → Bytes → Bool
 front_stands bs txt = leb (length (text_of bs)) form_text_room && starts_with (text_of bs) txt
 
--- whether it does, and how long its text is
-pub record FrontOf (bs txt : Bytes) (stands : Bool) (n : ℕ) : Type 0 where
-  pub is : stands ≡ front_stands bs txt
-  pub size : stands ≡ true → n ≡ length (text_of bs)
+-- whether it does: how long its text is
+pub record FrontOf (bs txt : Bytes) (r : Option ℕ) : Type 0 where
+  pub is : is_some r ≡ front_stands bs txt
+  pub size : IfSome r (λ n. n ≡ length (text_of bs))

@@ -6,7 +6,7 @@ use mathlib.Core.List.{List, [], ◌∷◌}
 use native.Mathlib.Omega.{arith}
 use native.Mathlib.Numerals.{add-one}
 use native.Mathlib.Nat.{add-zero}
-use borrow.Author.Tests.{eq-eqb, ne_eqb, eqb-true}
+use borrow.Author.Tests.{ne_eqb, eqb-true}
 use lib.Dec.{eqb, leb}
 use lib.ListN.{length, drop, get_or, drop_of_length-le}
 use lib.Seq.{drop-cons}
@@ -19,30 +19,6 @@ use Rattle.declaration_scan.specs.Declared.{Grouped, mark_code, grouped_from, gr
 use Rattle.model_scan.specs.Scanning.{depth_after, kind_after, count_on, Groups, starts_here, particle_here, shallow, Measures}
 
 -- ---- leaves
-pub depth_in : (x d : ℕ) → x ≡ 40 → d + 1 ≡ depth_after x d
-depth_in x d e = add-one d ∙ (λ i. elim (sym (eq-eqb x 40 e) i) [ true ↦ suc d | false ↦ elim (eqb x 41) [ true ↦ d - 1 | false ↦ d ] ])
-
-pub depth_out : (x d : ℕ) → (x ≡ 40 → ⊥) → x ≡ 41 → d - 1 ≡ depth_after x d
-depth_out x d n e = λ i. elim (sym (ne_eqb x 40 n) i) [ true ↦ suc d | false ↦ elim (sym (eq-eqb x 41 e) i) [ true ↦ d - 1 | false ↦ d ] ]
-
-pub depth_same : (x d : ℕ) → (x ≡ 40 → ⊥) → (x ≡ 41 → ⊥) → d ≡ depth_after x d
-depth_same x d n m = λ i. elim (sym (ne_eqb x 40 n) i) [ true ↦ suc d | false ↦ elim (sym (ne_eqb x 41 m) i) [ true ↦ d - 1 | false ↦ d ] ]
-
-pub kind_sequence : (x nest kind : ℕ) → (eqb nest 0 && eqb x 44) ≡ true → 1 ≡ kind_after x nest kind
-kind_sequence x nest kind e = λ i. elim (sym e i) [ true ↦ 1 | false ↦ elim (eqb nest 0 && eqb x 124) [ true ↦ 2 | false ↦ kind ] ]
-
-pub kind_choice : (x nest kind : ℕ) → (eqb nest 0 && eqb x 44) ≡ false → (eqb nest 0 && eqb x 124) ≡ true → 2 ≡ kind_after x nest kind
-kind_choice x nest kind n e = λ i. elim (sym n i) [ true ↦ 1 | false ↦ elim (sym e i) [ true ↦ 2 | false ↦ kind ] ]
-
-pub kind_same : (x nest kind : ℕ) → (eqb nest 0 && eqb x 44) ≡ false → (eqb nest 0 && eqb x 124) ≡ false → kind ≡ kind_after x nest kind
-kind_same x nest kind n m = λ i. elim (sym n i) [ true ↦ 1 | false ↦ elim (sym m i) [ true ↦ 2 | false ↦ kind ] ]
-
-pub count_one : (it : Bool) (n : ℕ) → it ≡ true → n + 1 ≡ count_on it n
-count_one it n e = add-one n ∙ (λ i. elim (sym e i) [ true ↦ suc n | false ↦ n ])
-
-pub count_none : (it : Bool) (n : ℕ) → it ≡ false → n ≡ count_on it n
-count_none it n e = λ i. elim (sym e i) [ true ↦ suc n | false ↦ n ]
-
 count_few : (it : Bool) (n : ℕ) → count_on it n ≤ suc n
 count_few true n = omega arith
 count_few false n = omega arith

@@ -2,34 +2,35 @@
 #![tactic(auto)]
 
 ghost use Rattle.std.specs.Prelude.{◌≡◌, true, false, [], suc, ◌+◌, ◌*◌, ◌%◌, ◌<◌, ◌≤◌, length};
-ghost use Rattle.rules.specs.Layout.{each, particle_bytes, particle_size};
+ghost use Rattle.rules.specs.Layout.{group_code, quantifier_code, each, particle_bytes, particle_size};
 ghost use Rattle.codec.specs.Laid.{Laid};
 ghost use Rattle.declaration_scan.specs.Declared.{element_here, group_here, model_from, model_of_content};
 ghost use Rattle.declaration_scan.specs.Names.{written_names};
 ghost use Rattle.model_scan.specs.Scanning.{depth_after, kind_after, count_on, Groups, starts_here, shallow, Measures, starting_here};
+
+use rules::{GroupKind, Quantifier};
 
 // How deep the byte after x stands.
 fn depth_after(x: u8, depth: usize) -> usize
     requires { suc depth < 18446744073709551616 }
     ensures { result ≡ depth_after x depth }
 {
-    if x == 40 {
-        return depth + 1;
+    match x {
+        b'(' => depth + 1,
+        b')' => layout::minus(depth, 1),
+        _ => depth,
     }
-    if x == 41 {
-        return layout::minus(depth, 1);
-    }
-    depth
 }
 
-// The code of a group by its separator, where x is one of its own.
-fn kind_after(x: u8, nest: usize, kind: u8) -> u8
-    ensures { result ≡ kind_after x nest kind }
+// The kind of a group by its separator, where x is one of its own.
+fn kind_after(x: u8, nest: usize, kind: GroupKind) -> GroupKind
+    ensures { group_code result ≡ kind_after x nest (group_code kind) }
 {
-    if (nest == 0) & (x == 44) {
-        return 1;
+    match x {
+        b',' if nest == 0 => GroupKind::Sequence,
+        b'|' if nest == 0 => GroupKind::Choice,
+        _ => kind,
     }
-    if (nest == 0) & (x == 124) { 2 } else { kind }
 }
 
 // One more where something is counted.
@@ -47,39 +48,36 @@ fn members(signs: usize) -> u8
     ((signs % 256 + 1) % 256) as u8
 }
 
-// What is seen of a group by its text: its code, how many members, the code of its quantifier.
+// What is seen of a group by its text: its kind, how many members, its quantifier.
 #[derive(Clone, Copy)]
 struct Group {
-    kind: u8,
+    kind: GroupKind,
     count: u8,
-    mark: u8,
+    mark: Quantifier,
 }
 
 // The group whose text is this, after its `(`.
 fn grouped_at(text: &[u8]) -> Group
-    ensures { Groups text.now result.kind result.count result.mark }
+    ensures { Groups text.now (group_code result.kind) result.count (quantifier_code result.mark) }
 {
     let mut nest = 0;
-    let mut kind = 1;
+    let mut kind = GroupKind::Sequence;
     let mut signs = 0;
-    let mut i = 0;
-    while i < text.len() {
-        let x = text[i];
-        if (x == 41) & (nest == 0) {
+    for (i, &x) in text.iter().enumerate() {
+        if (x == b')') & (nest == 0) {
             let mark = declaration_scan::mark_code(codec::after(text, i + 1));
             let count = members(signs);
             return Group { kind, count, mark };
         }
         kind = kind_after(x, nest, kind);
-        signs = counted((nest == 0) & ((x == 44) | (x == 124)), signs);
+        signs = counted((nest == 0) & ((x == b',') | (x == b'|')), signs);
         nest = depth_after(x, nest);
-        i += 1;
     }
     let count = members(signs);
     Group {
         kind,
         count,
-        mark: 0,
+        mark: Quantifier::None,
     }
 }
 
@@ -87,10 +85,11 @@ fn grouped_at(text: &[u8]) -> Group
 fn starts_here(x: u8, inside: bool) -> bool
     ensures { result ≡ starts_here x inside }
 {
-    (x == 40) | (byte_check::in_name(x) & !inside)
+    (x == b'(') | (byte_check::in_name(x) & !inside)
 }
 
-/// How many particles a content model has, and whether none is too deep.
+/// How many particles a content model has, and whether none is too deep. No `Option`: the record of a definition says
+/// the number in any case.
 #[derive(Clone, Copy)]
 pub struct Measured {
     pub count: usize,
@@ -105,15 +104,12 @@ fn measure_model(text: &[u8]) -> Measured
     let mut inside = false;
     let mut count = 0;
     let mut shallow = true;
-    let mut i = 0;
-    while i < text.len() {
-        let x = text[i];
+    for &x in text {
         let starts = starts_here(x, inside);
         count = counted(starts, count);
         shallow = shallow & (!starts | (depth <= 4));
         depth = depth_after(x, depth);
         inside = byte_check::in_name(x);
-        i += 1;
     }
     Measured { count, shallow }
 }
@@ -124,18 +120,20 @@ fn put_group(text: &[u8], depth: u8, out: &mut [u8], at: usize) -> usize
     ensures { Laid (particle_bytes (group_here depth text.now)) out.old at result out.new }
 {
     let group = grouped_at(text);
-    layout_writer::put_particle(group.kind, group.mark, group.count, depth, out, at)
+    let kind = u8::from(group.kind);
+    let mark = u8::from(group.mark);
+    layout_writer::put_particle(kind, mark, group.count, depth, out, at)
 }
 
-// Writes the element that stands here, of one of n definitions.
+// Writes the element that stands here, of one of n definitions; the number n if none of them has its name.
 fn put_element(defs: &[u8], n: usize, text: &[u8], depth: u8, out: &mut [u8], at: usize) -> usize
     requires { (n ≤ 64) × (20 * n ≤ length defs.now) × (at < 4611686018427387904) }
     ensures { Laid (particle_bytes (element_here (written_names n defs.now) depth text.now)) out.old at result out.new }
 {
     let name = declaration_scan::name_here(text);
-    let place = declaration_scan::definition_place(defs, n, name);
+    let place = declaration_scan::definition_place(defs, n, name).unwrap_or(n);
     let mark = declaration_scan::mark_code(declaration_scan::after_name(text));
-    layout_writer::put_particle(0, mark, place as u8, depth, out, at)
+    layout_writer::put_particle(0, u8::from(mark), place as u8, depth, out, at)
 }
 
 // Writes the particle that begins at the first byte, if one does.
@@ -156,7 +154,7 @@ fn put_here(
     if !starts_here(x, inside) {
         return at;
     }
-    if x == 40 {
+    if x == b'(' {
         return put_group(codec::after(text, 1), depth as u8, out, at);
     }
     put_element(defs, n, text, depth as u8, out, at)
@@ -171,13 +169,10 @@ fn put_model(defs: &[u8], n: usize, text: &[u8], out: &mut [u8], start: usize) -
     let mut depth = 0;
     let mut inside = false;
     let mut at = start;
-    let mut i = 0;
-    while i < text.len() {
+    for (i, &x) in text.iter().enumerate() {
         at = put_here(defs, n, codec::after(text, i), inside, depth, out, at);
-        let x = text[i];
         depth = depth_after(x, depth);
         inside = byte_check::in_name(x);
-        i += 1;
     }
     at
 }

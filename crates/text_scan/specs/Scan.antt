@@ -1,9 +1,11 @@
 -- Words on texts: what a text begins with, its lines, and the value that an escaped one stands for.
 use Rattle.std.specs.Prelude.{ℕ, zero, suc, ◌+◌, ◌≡◌, Bool, true, false, ◌&&◌, ◌||◌, not, List, [], ◌∷◌, eqb, length, get_or}
+use Rattle.std.specs.Prelude as code
+use Rattle.std.specs.Prelude.{Some, None, IsSome}
 use Rattle.std.proofs.Math.Option.{Option, none, some}
 use Rattle.std.proofs.lemmas.List.Edits.{sets}
 use Rattle.rules.specs.Bytes.{Bytes, ascii}
-use Rattle.rules.specs.WellFormed.{is_there}
+use Rattle.text_scan.specs.declared.Character.{Character}
 
 abbrev pub first_byte : Bytes → ℕ
 first_byte txt = get_or txt 0 0
@@ -59,18 +61,10 @@ escaped_at xs =
 abbrev pub plain_at : ℕ → Bytes → Option PlainByte
 plain_at x xs = elim (eqb x 38) [ true ↦ escaped_at xs | false ↦ elim (eqb x 60 || (eqb x 62 || eqb x 34)) [ true ↦ none | false ↦ some (record { byte = x; more = 0 }) ] ]
 
--- .. as the reader of one place hands it back: the byte, and all bytes of its escape; 0 and 0 where none of it stands
-abbrev pub plain_byte : Option PlainByte → ℕ
-plain_byte none = 0
-plain_byte (some p) = p.byte
-
-abbrev pub escape_size : Option PlainByte → ℕ
-escape_size none = 0
-escape_size (some p) = p.more + 1
-
-pub record StandsFor (place : Option PlainByte) (byte size : ℕ) : Type 0 where
-  pub stands : byte ≡ plain_byte place
-  pub long : size ≡ escape_size place
+-- .. as the reader of one place hands it back: the byte, and all bytes of its escape
+abbrev pub character_of : Option PlainByte → code.Option Character
+character_of none = None
+character_of (some p) = Some (record { byte = p.byte; size = p.more + 1 })
 
 abbrev pub precede : ℕ → Option Bytes → Option Bytes
 precede x none = none
@@ -91,11 +85,15 @@ value_or (some v) = v
 abbrev pub value_of_raw : Bytes → Bytes
 value_of_raw raw = value_or (unescaped 0 raw)
 
--- a value undone: whether the text is an escape; if it is, `value` has what it stands for, as far as `value` goes
-pub record Unescapes (raw value : Bytes) (exact : Bool) (n : ℕ) (value' : Bytes) : Type 0 where
-  pub is : exact ≡ is_there (unescaped 0 raw)
-  pub stored : exact ≡ true → value' ≡ sets value 0 (value_of_raw raw)
-  pub size : exact ≡ true → n ≡ length (value_of_raw raw)
+-- the length of a value, if there is one
+abbrev pub length_of : Option Bytes → code.Option ℕ
+length_of none = None
+length_of (some v) = Some (length v)
+
+-- a value undone: its length, if the text is an escape; then `value` has what it stands for, as far as `value` goes
+pub record Unescapes (raw value : Bytes) (r : code.Option ℕ) (value' : Bytes) : Type 0 where
+  pub is : r ≡ length_of (unescaped 0 raw)
+  pub stored : IsSome r → value' ≡ sets value 0 (value_of_raw raw)
   pub long : length value' ≡ length value
 
 -- ---- lines

@@ -1,7 +1,6 @@
 -- `attribute_scan::put_attribute_line` meets its contract: the name and what comes after the type stand in the line
 -- where the definition has them (`line_laid` of ValueLaws).
 use Rattle.attribute_scan.proofs.ValueLaws.{line_laid}
-use borrow.Author.Rules.{rules}
 use Rattle.attribute_scan.proofs.put_attribute_line.Goals as goal
 
 pub returns : goal.returns

@@ -2,7 +2,6 @@
 -- bytes of it (`declares_implied`, `declares_required`, `declares_fixed` of ValueLaws).
 use Rattle.attribute_scan.proofs.ValueLaws.{declares_implied, declares_required, declares_fixed, value_short}
 use native.Mathlib.Omega.{arith}
-use borrow.Author.Rules.{rules}
 use Rattle.attribute_scan.proofs.put_declared.Goals as goal
 
 pub put_attribute-requires : goal.put_attribute-requires

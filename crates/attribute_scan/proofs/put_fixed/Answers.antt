@@ -3,19 +3,18 @@
 use mathlib.Core.Path.{refl}
 use Rattle.attribute_scan.specs.Values.{quoted_value}
 use Rattle.attribute_scan.proofs.ValueLaws.{value_kept, value_quoted, value_laid, value_short}
-use borrow.Author.Rules.{rules}
 use Rattle.attribute_scan.proofs.put_fixed.Goals as goal
 
 pub put_attribute-requires : goal.put_attribute-requires
 put_attribute-requires c =
     let a = c.args in
     let kept = value_quoted a.text.now _ _ _ _ c.after-quoted.ensures c.length_before.ensures c.first-raw.ensures a.w
-    (value_kept _ _ _ _ _ _ a.w _ c.unescape-read.ensures refl c.requires.0 c.value_size-n.ensures c.first.ensures) in
+    (value_kept _ _ _ _ _ _ a.w _ c.unescape.ensures refl c.requires.0 c.unwrap_or-n.ensures c.least.ensures c.first-kept.ensures) in
     (c.requires.0, c.requires.1, value_short _ (quoted_value a.text.now) a.w kept, c.requires.2)
 
 pub returns : goal.returns
 returns c =
     let a = c.args in
     let kept = value_quoted a.text.now _ _ _ _ c.after-quoted.ensures c.length_before.ensures c.first-raw.ensures a.w
-    (value_kept _ _ _ _ _ _ a.w _ c.unescape-read.ensures refl c.requires.0 c.value_size-n.ensures c.first.ensures) in
+    (value_kept _ _ _ _ _ _ a.w _ c.unescape.ensures refl c.requires.0 c.unwrap_or-n.ensures c.least.ensures c.first-kept.ensures) in
     value_laid a.w a.owner a.name.now _ _ kept c.put_attribute.ensures

@@ -1,11 +1,9 @@
 -- `declaration_reading::count_declarations` meets its contract: a line that is a declaration is cut off (`cut` of
 -- LineLaws), and with its counts the invariant holds of the others (`counting_on` of CountLaws); no count is more than
 -- the bytes of the text (`counting_room`). At the first other line no declaration is left (`counting_done`).
-use lib.ListN.{length}
 use Rattle.declaration_reading.proofs.LineLaws.{cut, cut_none, span_rest}
-use Rattle.declaration_reading.proofs.CountLaws.{Counting, counting_start, counting_room, counting_on, counting_done}
+use Rattle.declaration_reading.proofs.CountLaws.{counting_start, counting_room, counting_on, counting_done}
 use native.Mathlib.Omega.{arith}
-use borrow.Author.Rules.{rules}
 use Rattle.declaration_reading.proofs.count_declarations.Goals as goal
 
 pub loop-t-init : goal.loop-t-init

@@ -1,8 +1,5 @@
 use lib.ListN.{length}
-use Rattle.declaration_reading.proofs.LineLaws.{cut, cut_none, span_rest}
-use Rattle.declaration_reading.proofs.CountLaws.{Counting, counting_start, counting_room, counting_on, counting_done}
-use native.Mathlib.Omega.{arith}
-use borrow.Author.Rules.{rules}
+use Rattle.declaration_reading.proofs.CountLaws.{Counting}
 use Rattle.declaration_reading.proofs.count_declarations.Given as goal
 
 -- with what is left, the counts are those of the whole

@@ -1,8 +1,6 @@
 -- `declaration_reading::count_line` meets its contract: the line of an attribute says one (`counted_attribute` of
 -- CountLaws), that of a definition one and its particles (`counted_definition`).
-use borrow.Author.Tests.{not-true, not-false}
 use Rattle.declaration_reading.proofs.CountLaws.{counted_attribute, counted_definition}
-use borrow.Author.Rules.{rules}
 use Rattle.declaration_reading.proofs.count_line.Goals as goal
 
 pub returns-then-not-starts_with : goal.returns-then-not-starts_with

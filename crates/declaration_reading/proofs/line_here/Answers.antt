@@ -1,6 +1,5 @@
 -- `declaration_reading::line_here` meets its contract: the bytes before the first line feed (`line_is` of LineLaws).
 use Rattle.declaration_reading.proofs.LineLaws.{line_is}
-use borrow.Author.Rules.{rules}
 use Rattle.declaration_reading.proofs.line_here.Goals as goal
 
 pub returns : goal.returns

@@ -2,7 +2,6 @@
 -- one (`span_last`).
 use Rattle.declaration_reading.proofs.LineLaws.{span_more, span_last}
 use native.Mathlib.Omega.{arith}
-use borrow.Author.Rules.{rules}
 use Rattle.declaration_reading.proofs.line_span.Goals as goal
 
 pub returns-then-n-text : goal.returns-then-n-text

@@ -1,7 +1,6 @@
 -- `declaration_reading::owners_after` meets its contract: one more after the line of a definition (`owners_more`,
 -- `owners_same` of BodyLaws).
 use Rattle.declaration_reading.proofs.BodyLaws.{owners_more, owners_same}
-use borrow.Author.Rules.{rules}
 use Rattle.declaration_reading.proofs.owners_after.Goals as goal
 
 pub returns-then-starts_with : goal.returns-then-starts_with

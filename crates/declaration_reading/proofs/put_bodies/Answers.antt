@@ -4,7 +4,6 @@
 use Prim.Native.Nat.{ℕ}
 use native.Mathlib.Omega.{arith}
 use lib.ListN.{length-replicate}
-use borrow.Author.Rules.{rules}
 use Rattle.declaration_reading.proofs.FormLaws.{definitions_ready, written_aside, particles_ready, attributes_ready, bodies_laid}
 use Rattle.declaration_reading.proofs.put_bodies.Goals as goal
 

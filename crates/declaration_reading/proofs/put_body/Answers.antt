@@ -3,10 +3,8 @@
 -- (`writing_on`). At the first other line nothing is left to write (`writing_done`).
 use mathlib.Core.Path.{refl}
 use native.Mathlib.Omega.{arith}
-use lib.ListN.{length}
-use borrow.Author.Rules.{rules}
 use Rattle.declaration_reading.proofs.LineLaws.{cut, cut_none, span_rest}
-use Rattle.declaration_reading.proofs.BodyLaws.{Writing, writing_first, writing_on, writing_done}
+use Rattle.declaration_reading.proofs.BodyLaws.{writing_first, writing_on, writing_done}
 use Rattle.declaration_reading.proofs.put_body.Goals as goal
 
 pub loop-t-init : goal.loop-t-init

@@ -1,9 +1,5 @@
-use mathlib.Core.Path.{refl}
-use native.Mathlib.Omega.{arith}
 use lib.ListN.{length}
-use borrow.Author.Rules.{rules}
-use Rattle.declaration_reading.proofs.LineLaws.{cut, cut_none, span_rest}
-use Rattle.declaration_reading.proofs.BodyLaws.{Writing, writing_first, writing_on, writing_done}
+use Rattle.declaration_reading.proofs.BodyLaws.{Writing}
 use Rattle.declaration_reading.proofs.put_body.Given as goal
 
 -- once what is left is written, all is, and it can be written

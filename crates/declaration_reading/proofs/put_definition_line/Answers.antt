@@ -1,10 +1,8 @@
 -- `declaration_reading::put_definition_line` meets its contract: the line of a definition says its name, its kind and
 -- the number of its particles (`defines_one` of BodyLaws), which are few (`defines_few`); any other line says none
 -- (`defines_none`).
-use borrow.Author.Tests.{not-true, not-false}
 use Rattle.declaration_reading.proofs.BodyLaws.{defines_none, defines_few, defines_one}
 use native.Mathlib.Omega.{arith}
-use borrow.Author.Rules.{rules}
 use Rattle.declaration_reading.proofs.put_definition_line.Goals as goal
 
 pub returns-then-not-starts_with : goal.returns-then-not-starts_with

@@ -1,7 +1,6 @@
 -- `declaration_reading::put_head` meets its contract: the version, the next serial and the table of contents, laid one
 -- after the other (`head_laid` of FormLaws).
 use Rattle.declaration_reading.proofs.FormLaws.{head_laid}
-use borrow.Author.Rules.{rules}
 use Rattle.declaration_reading.proofs.put_head.Goals as goal
 
 pub returns : goal.returns

@@ -3,7 +3,6 @@
 -- names are (`particles_fit` of FormLaws).
 use mathlib.Core.List.{[], ◌∷◌}
 use native.Mathlib.Omega.{arith}
-use borrow.Author.Rules.{rules}
 use Rattle.declaration_reading.proofs.BodyLaws.{ready_as, body_laid}
 use Rattle.declaration_reading.proofs.FormLaws.{particles_fit}
 use Rattle.declaration_reading.proofs.put_line.Goals as goal

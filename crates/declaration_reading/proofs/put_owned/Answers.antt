@@ -2,7 +2,6 @@
 -- BodyLaws), any other one of the last definition before it (`owned_one`).
 use Rattle.declaration_reading.proofs.BodyLaws.{owned_none, owned_one}
 use native.Mathlib.Omega.{arith}
-use borrow.Author.Rules.{rules}
 use Rattle.declaration_reading.proofs.put_owned.Goals as goal
 
 pub returns-then-starts_with : goal.returns-then-starts_with

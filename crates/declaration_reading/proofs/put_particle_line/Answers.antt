@@ -1,10 +1,8 @@
 -- `declaration_reading::put_particle_line` meets its contract: the line of a definition says the particles of its
 -- content (`particles_laid` of BodyLaws), which are not too deep and have room (`particles_low`, `particles_small`);
 -- any other line says none (`particles_none`).
-use borrow.Author.Tests.{not-true, not-false}
 use Rattle.declaration_scan.specs.Names.{written_names}
 use Rattle.declaration_reading.proofs.BodyLaws.{particles_none, particles_low, particles_small, particles_laid}
-use borrow.Author.Rules.{rules}
 use Rattle.declaration_reading.proofs.put_particle_line.Goals as goal
 
 pub returns-then-not-starts_with : goal.returns-then-not-starts_with

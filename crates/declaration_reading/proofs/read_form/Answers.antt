@@ -2,8 +2,6 @@
 -- the ceilings, and if it is not the answer is 0 (`form_refused` of FormLaws); else the header and the bodies are its
 -- bytes (`form_read_lem`).
 use Rattle.declaration_reading.proofs.FormLaws.{form_fits, counts_fit_lem, head_size, form_refused, form_read_lem}
-use borrow.Author.Tests.{not-true, not-false}
-use borrow.Author.Rules.{rules}
 use Rattle.declaration_reading.proofs.read_form.Goals as goal
 
 pub returns-then-not-within : goal.returns-then-not-within

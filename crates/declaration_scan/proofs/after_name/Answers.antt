@@ -1,6 +1,5 @@
 -- `declaration_scan::after_name` meets its contract: past as many bytes as the name has (`name_passed` of Laws).
 use Rattle.declaration_scan.proofs.Laws.{name_passed}
-use borrow.Author.Rules.{rules}
 use Rattle.declaration_scan.proofs.after_name.Goals as goal
 
 pub returns : goal.returns

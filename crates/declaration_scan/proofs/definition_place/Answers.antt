@@ -1,40 +1,27 @@
--- `declaration_scan::definition_place` meets its contract: the first definition of the name is found
--- (`placing_hit` of Laws), any other is passed (`placing_on`), as it is whole (`placing_first`), and past the last the
--- answer is n (`placing_end`).
-use mathlib.Core.Path.{sym}
-use Prim.Native.Nat.{◌-◌}
-use native.Mathlib.Omega.{arith}
-use lib.Seq.{length-take-le}
+-- `declaration_scan::definition_place` meets its contract: the first definition of the name is the one whose place is
+-- said (`place_found` of Laws).
+use mathlib.Core.Bool.{true, false}
+use mathlib.Core.Path.{◌≡◌}
+use Prim.Native.Nat.{◌≤◌}
+use borrow.Author.Tests.{tests}
 use borrow.Author.Rules.{rules}
-use Rattle.declaration_scan.proofs.Laws.{Placing, placing_start, placing_first, placing_hit, placing_on, placing_end}
+use Rattle.std.proofs.lemmas.Iterator.{first_from_Range, serves_from_Range}
+use Rattle.rules.specs.Bytes.{same}
+use Rattle.rules.specs.Layout.{definition_size}
+use Rattle.rules.specs.Decode.{read_definition}
+use Rattle.layout.specs.Bodies.{record_at}
+use Rattle.declaration_scan.proofs.Laws.{place_found}
 use Rattle.declaration_scan.proofs.definition_place.Goals as goal
 
-pub loop-i-init : goal.loop-i-init
-loop-i-init c =
-    placing_start _ _ _ c.requires.1
-
-pub slice_bounds-is_named-end : goal.slice_bounds-is_named-end
-slice_bounds-is_named-end c =
-    sym (length-take-le _ c.loop-i.t.now (placing_first c.loop-i.invariant (omega arith)))
-
-pub returns-then-is_named : goal.returns-then-is_named
-returns-then-is_named c =
-    placing_hit c.loop-i.invariant (omega arith) _ c.is_named.ensures c.if-is_named.true
-
-pub slice_bounds-t-count : goal.slice_bounds-t-count
-slice_bounds-t-count c =
-    omega (arith, placing_first c.loop-i.invariant (omega arith))
-
-pub slice_bounds-t-start : goal.slice_bounds-t-start
-slice_bounds-t-start c =
-    omega (arith, placing_first c.loop-i.invariant (omega arith))
-
-pub overflow_add-i : goal.overflow_add-i
-overflow_add-i c = omega arith
-
-pub loop-i-preserved : goal.loop-i-preserved
-loop-i-preserved c =
-    placing_on c.loop-i.invariant (omega arith) _ c.is_named.ensures c.if-is_named.false
+pub find-requires : goal.find-requires
+find-requires c =
+    let few : c.args.n ≤ 64 = c.requires.0 in
+    record { can = tt; finite = tt; callable = serves_from_Range (λ x q k. search (rules, tests)) (λ x low high. search rules) }
 
 pub returns : goal.returns
-returns c = placing_end c.loop-i.invariant (omega arith)
+returns c =
+    let defs = c.args.defs.now in
+    let name = c.args.name.now in
+    place_found name defs c.args.n _
+    (first_from_Range _ _ _ _ (λ i. same name (read_definition (record_at definition_size i defs)).name ≡ true)
+    (λ i. same name (read_definition (record_at definition_size i defs)).name ≡ false) c.find.ensures.ran (λ x q k. search (rules, tests)) (λ x q k. search (rules, tests)))

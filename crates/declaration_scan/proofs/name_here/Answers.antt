@@ -1,7 +1,6 @@
 -- `declaration_scan::name_here` meets its contract: of as many bytes as the name has the first sixteen
 -- (`name_front` of Laws).
 use Rattle.declaration_scan.proofs.Laws.{name_front}
-use borrow.Author.Rules.{rules}
 use Rattle.declaration_scan.proofs.name_here.Goals as goal
 
 pub returns : goal.returns

@@ -1,18 +1,12 @@
 -- `model_scan::grouped_at` meets its contract: each byte of the text keeps the invariant (`grouping_on` of ModelLaws);
 -- the group's own `)` ends it with the mark after it (`grouping_closed`), and so does the end of the text
 -- (`grouping_open`).
-use Prim.Native.Nat.{◌-◌}
-use lib.ListN.{length}
-use Rattle.model_scan.proofs.ModelLaws.{Grouping, grouping_start, grouping_on, grouping_closed, grouping_open}
+use Rattle.model_scan.proofs.ModelLaws.{grouping_start, grouping_on, grouping_closed, grouping_open}
 use native.Mathlib.Omega.{arith}
-use borrow.Author.Rules.{rules}
 use Rattle.model_scan.proofs.grouped_at.Goals as goal
 
 pub loop-i-init : goal.loop-i-init
 loop-i-init c = grouping_start _
-
-pub bounds-text-i : goal.bounds-text-i
-bounds-text-i c = omega arith
 
 pub returns-then-x-nest : goal.returns-then-x-nest
 returns-then-x-nest c =

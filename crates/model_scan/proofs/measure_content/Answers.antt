@@ -1,7 +1,6 @@
 -- `model_scan::measure_content` meets its contract: content with a model has its particles (`measured_some` of
 -- ContentLaws), any other has none (`measured_none`).
 use Rattle.model_scan.proofs.ContentLaws.{measured_some, measured_none}
-use borrow.Author.Rules.{rules}
 use Rattle.model_scan.proofs.measure_content.Goals as goal
 
 pub returns-then-declared_kind-eq2 : goal.returns-then-declared_kind-eq2

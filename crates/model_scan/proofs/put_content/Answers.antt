@@ -3,7 +3,6 @@
 -- asks of those of the model (`content_low`, `content_small`).
 use Rattle.declaration_scan.specs.Names.{written_names}
 use Rattle.model_scan.proofs.ContentLaws.{content_low, content_small, content_laid, content_empty}
-use borrow.Author.Rules.{rules}
 use Rattle.model_scan.proofs.put_content.Goals as goal
 
 pub put_model-requires : goal.put_model-requires

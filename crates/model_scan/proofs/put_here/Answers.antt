@@ -1,11 +1,9 @@
 -- `model_scan::put_here` meets its contract: where no particle begins nothing is written (`starting_none` of PutLaws),
 -- else a group or an element (`starting_group`, `starting_element`). The one that begins is not too deep, so that its
 -- depth fits a byte (`starting_low`).
-use borrow.Author.Tests.{not-true, not-false}
 use Rattle.declaration_scan.specs.Names.{written_names}
 use Rattle.model_scan.proofs.PutLaws.{starting_none, starting_low, starting_group, starting_element}
 use native.Mathlib.Omega.{arith}
-use borrow.Author.Rules.{rules}
 use Rattle.model_scan.proofs.put_here.Goals as goal
 
 pub returns-then-not-starts_here : goal.returns-then-not-starts_here

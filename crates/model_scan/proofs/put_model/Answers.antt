@@ -2,12 +2,9 @@
 -- invariant (`putting_on` of PutLaws), and at the end no particle is left (`putting_done`). What is left begins with a
 -- byte, and its particle is not too deep (`putting_here`, `putting_low`).
 use mathlib.Core.Path.{refl}
-use Prim.Native.Nat.{◌-◌}
-use lib.ListN.{length}
 use Rattle.declaration_scan.specs.Names.{written_names}
-use Rattle.model_scan.proofs.PutLaws.{Putting, putting_here, putting_low, putting_on, putting_done}
+use Rattle.model_scan.proofs.PutLaws.{putting_here, putting_low, putting_on, putting_done}
 use native.Mathlib.Omega.{arith}
-use borrow.Author.Rules.{rules}
 use Rattle.model_scan.proofs.put_model.Goals as goal
 
 pub loop-i-init : goal.loop-i-init
@@ -25,18 +22,9 @@ put_here-at-requires c =
       omega (arith, c.loop-i.invariant.small),
     )
 
-pub bounds-text-i : goal.bounds-text-i
-bounds-text-i c = omega arith
-
 pub depth_after-depth-requires : goal.depth_after-depth-requires
 depth_after-depth-requires c =
     omega (arith, c.loop-i.invariant.near)
-
-pub overflow_add-i : goal.overflow_add-i
-overflow_add-i c = omega arith
-
-pub loop-i-smaller : goal.loop-i-smaller
-loop-i-smaller c = omega arith
 
 pub loop-i-preserved : goal.loop-i-preserved
 loop-i-preserved c =

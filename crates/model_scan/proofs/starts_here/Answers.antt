@@ -2,7 +2,6 @@
 use mathlib.Core.Path.{ap}
 use mathlib.Core.Bool.{Bool, ◌&&◌, ◌||◌, not}
 use lib.Dec.{eqb}
-use borrow.Author.Rules.{rules}
 use Rattle.model_scan.proofs.starts_here.Goals as goal
 
 pub returns : goal.returns

@@ -7,6 +7,7 @@ ghost use Rattle.rules.specs.Change.{insert_element};
 ghost use Rattle.rules.specs.Outcome.{outcome, Answers};
 
 use model_writer::Edit;
+use rules::Quantifier;
 use store_writer::Answer;
 
 /// 3: inserts an element into a model; on the spine each instance gets a filling if the quantifier needs one.
@@ -39,6 +40,6 @@ pub fn insert_element(
     let p = gap.particle;
     let part = model_places::own_part(store, o);
     let plan = member_plans::inserting_plan(part, o, p, h.spine, i, quantifier);
-    let edit = Edit::Insert(model::read_quantifier(quantifier as u8), i);
+    let edit = Edit::Insert(Quantifier::from(quantifier as u8), i);
     model_edit::edit_model(store, o, edit, h, p, plan, text, out)
 }

@@ -16,7 +16,6 @@ use Rattle.rules.specs.Edit.{Edit, insert, remove, quantify, convert, flatten}
 use Rattle.rules.proofs.Words.{and_both}
 use Rattle.rules.proofs.BooleanLaws.{all_left, all_right}
 use Rattle.rules.specs.Decode.{read_particle}
-use Rattle.codec.proofs.Writers.{tail_seen}
 use Rattle.model.specs.declared.place.Holder.{Holder}
 use Rattle.model.specs.Members.{particles_of}
 use Rattle.model.specs.Places.{Particles}
@@ -101,9 +100,9 @@ module _ {goal : Bool} {d : ℕ} {t : Bytes} {m : ℕ} (v : Deepening goal d t m
         ∙ ap (λ (z : Bool). z && depths_within (moved (shift true) d (passing b m) (particles_of (drop particle_size t))))
         (lt-leb (suc (read_particle t).depth) 4 (omega arith)))
 
-    pub deep_step : (eqb m 0 && not b) ≡ false → (read_particle t).depth < 4 → {m' : ℕ} → m' ≡ passing b m → Deepening goal d (take (length t - particle_size) (drop particle_size t)) m'
+    pub deep_step : (eqb m 0 && not b) ≡ false → (read_particle t).depth < 4 → {m' : ℕ} → m' ≡ passing b m → Deepening goal d (drop particle_size t) m'
     deep_step f h {m'} p =
-        rw (tail_seen t particle_size, p)
+        rw p
         (record {
           still = still_rest;
           same = deep_first f ∙ ap (λ (z : Bool). z && depths_within (moved (shift true) d (passing b m) (particles_of (drop particle_size t)))) (le-leb (suc (read_particle t).depth) 4 (omega arith));

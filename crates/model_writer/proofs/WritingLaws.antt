@@ -6,12 +6,13 @@ use mathlib.Core.Bool.{Bool, true, false, not, ◌&&◌, false≢true}
 use mathlib.Core.List.{[], ◌∷◌}
 use borrow.Author.Tests.{ne_eqb}
 use lib.Dec.{ltb, eqb}
-use lib.ListN.{length, take, drop, length-drop}
+use lib.ListN.{length, drop, length-drop}
+use lib.Seq.{drop-drop}
 use Rattle.rules.specs.Bytes.{Bytes}
 use Rattle.rules.specs.Layout.{particle_bytes, each, particle_size}
 use Rattle.rules.specs.Decode.{read_particle}
 use Rattle.codec.specs.Laid.{Laid}
-use Rattle.codec.proofs.Writers.{tail_seen, laid_none, laid_then, laid_as}
+use Rattle.codec.proofs.Writers.{laid_none, laid_then, laid_as}
 use Rattle.model.specs.Members.{particles_of}
 use Rattle.model.specs.Places.{Particles}
 use Rattle.model.proofs.MembersLaws.{particles_few, particles_more}
@@ -86,10 +87,10 @@ module _ {w out₀ : Bytes} {start bound : ℕ} {g : ℕ → ℕ} {d : ℕ} {t :
     going_fits f = (rw (moved_first g d t l b m inner f) at v.fitting).0.depth
 
     pub going_step : (eqb m 0 && not b) ≡ false → {m' r : ℕ} {out' : Bytes} → m' ≡ passing b m → length out' ≡ length out → Laid (particle_bytes (redeep g (read_particle t))) out at r out'
-        → Going w out₀ start bound g d (take (length t - particle_size) (drop particle_size t)) m' out' r
+        → Going w out₀ start bound g d (drop particle_size t) m' out' r
     unfolding Fitting
     going_step f {m'} {r} {out'} p long x =
-        rw (tail_seen t particle_size, p)
+        rw p
         (record {
           whole = omega (arith, v.whole, length-drop particle_size t);
           room = omega (arith, v.room, x.next, length-drop particle_size t);
@@ -97,3 +98,16 @@ module _ {w out₀ : Bytes} {start bound : ℕ} {g : ℕ → ℕ} {d : ℕ} {t :
           long = long ∙ v.long;
           goes = λ y. v.goes (laid_as (ap (each particle_bytes) (moved_first g d t l b m inner f)) (laid_then x y));
         })
+
+-- ---- and t is what is left of s once all from `start` to `at` is written
+pub record Along (s : Bytes) (start at : ℕ) (t : Bytes) : Type 0 where
+  pub from : start ≤ at
+  pub rest : t ≡ drop (at - start) s
+
+pub along_all : (s : Bytes) (start : ℕ) → Along s start start s
+along_all s start = record { from = omega arith; rest = let z : start - start ≡ 0 = omega arith in sym (ap (λ (k : ℕ). drop k s) z) }
+
+pub along_on : {s : Bytes} {start at : ℕ} {t : Bytes} → Along s start at t → {t' : Bytes} {r : ℕ} → t' ≡ drop particle_size t → r ≡ at + particle_size → Along s start r t'
+along_on {s} {start} {at} {t} v {t'} {r} e q =
+    let z : at - start + particle_size ≡ r - start = omega (arith, v.from) in
+    record { from = omega (arith, v.from); rest = e ∙ ap (drop particle_size) v.rest ∙ drop-drop particle_size (at - start) s ∙ ap (λ (k : ℕ). drop k s) z }

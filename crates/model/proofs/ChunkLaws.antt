@@ -1,12 +1,11 @@
 -- A particle off the front of a slice, as `chunks_exact` gives it.
-use mathlib.Core.Path.{◌≡◌, refl, ap, ◌∙◌}
+use mathlib.Core.Path.{◌≡◌, refl}
 use mathlib.Core.List.{[], ◌∷◌, ◌++◌}
 use Prim.Native.Nat.{ℕ, ◌≤◌}
 use native.Mathlib.Omega.{arith}
 use lib.ListN.{length, drop}
 use Rattle.rules.specs.Bytes.{Bytes}
-use Rattle.rules.specs.Preorder.{Deep}
-use Rattle.rules.specs.Layout.{particle_size, FlatParticle}
+use Rattle.rules.specs.Layout.{particle_size}
 use Rattle.rules.specs.Decode.{read_particle}
 
 -- x is the first particle of t, and s is what follows it
@@ -22,14 +21,3 @@ front t (a ∷ b ∷ []) s e h = absurd (omega arith)
 front t (a ∷ b ∷ c ∷ []) s e h = absurd (omega arith)
 front t (a ∷ b ∷ c ∷ d ∷ []) s e h = rw e (record { long = omega arith; rest = refl; reads = refl })
 front t (a ∷ b ∷ c ∷ d ∷ f ∷ x) s e h = absurd (omega arith)
-
--- with its depth, as it was read
-pub record Depth (t x s : Bytes) (d : ℕ) : Type 0 where
-  pub long : particle_size ≤ length t
-  pub rest : s ≡ drop particle_size t
-  pub depth : d ≡ (read_particle t).depth
-
-pub depth_there : (t x s : Bytes) {d : ℕ} → t ≡ x ++ s → length x ≡ particle_size → d ≡ (read_particle x).depth → Depth t x s d
-depth_there t x s e h q =
-    let w : Front t x s = front t x s e h in
-    record { long = w.long; rest = w.rest; depth = q ∙ ap (λ (p : Deep FlatParticle). p.depth) w.reads }

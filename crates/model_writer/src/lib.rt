@@ -149,8 +149,8 @@ fn count_after(ys: &[u8], edit: Edit, n: usize) -> usize
         Edit::Insert(_, _) => n + 1,
         Edit::Remove => n.saturating_sub(1),
         Edit::Quantify(_) => n,
-        Edit::Convert(_, m) => layout::minus(n + 1, m),
-        Edit::Flatten => layout::minus(n + layout::particle_index(ys) as usize, 1),
+        Edit::Convert(_, m) => (n + 1).saturating_sub(m),
+        Edit::Flatten => (n + layout::particle_index(ys) as usize).saturating_sub(1),
     }
 }
 

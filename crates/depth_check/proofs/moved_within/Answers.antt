@@ -1,16 +1,11 @@
 -- `depth_check::moved_within` meets its contract: the answer is true where no further particle moves (`deep_stop` of
 -- Ceiling), false where one of depth 4 or more moves (`deep_over`), and true where no particle is left (`deep_done`).
 -- Any other particle keeps the invariant (`deep_step`).
-use mathlib.Core.Path.{◌≡◌, sym, ap, subst, ◌∙◌}
-use Prim.Native.Nat.{ℕ}
+use mathlib.Core.Path.{sym, ap, ◌∙◌}
 use native.Mathlib.Omega.{arith}
 use lib.Dec.{ltb}
-use Rattle.rules.specs.Bytes.{Bytes}
-use Rattle.rules.specs.Preorder.{Deep}
-use Rattle.rules.specs.Layout.{FlatParticle, particle_size}
-use Rattle.rules.specs.Decode.{read_particle}
-use Rattle.model.proofs.ChunkLaws.{Front, front, depth_there}
-use Rattle.model_writer.proofs.Ceiling.{Deepening, deep_all, deep_done, deep_stop, deep_over, deep_step}
+use Rattle.model.proofs.ChunkLaws.{front}
+use Rattle.model_writer.proofs.Ceiling.{deep_all, deep_done, deep_stop, deep_over, deep_step}
 use Rattle.depth_check.proofs.moved_within.Goals as goal
 
 pub loop-particle-init : goal.loop-particle-init
@@ -22,24 +17,24 @@ pub returns-then-m-inner : goal.returns-then-m-inner
 returns-then-m-inner c =
     let loop = c.loop-particle.invariant in
     let step = c.in-Some.ensures.steps in
-    let at = depth_there _ _ _ step.1.0 (step.1.1 ∙ loop.0) c.particle_depth-depth.ensures in
-    deep_stop loop.1 at.long _ (ap (ltb c.args.d) (sym at.depth)) c.if-m-inner.true
+    let first = front _ _ _ step.1.0 (step.1.1 ∙ loop.0) in
+    deep_stop loop.1 first _ (ap (ltb c.args.d) (sym c.particle_depth-depth.ensures)) c.if-m-inner.true
 
 pub returns-then-depth-ge4 : goal.returns-then-depth-ge4
 returns-then-depth-ge4 c =
     let loop = c.loop-particle.invariant in
     let step = c.in-Some.ensures.steps in
-    let at = depth_there _ _ _ step.1.0 (step.1.1 ∙ loop.0) c.particle_depth-depth.ensures in
-    deep_over loop.1 at.long _ (ap (ltb c.args.d) (sym at.depth)) c.if-m-inner.false (omega (arith, at.depth))
+    let first = front _ _ _ step.1.0 (step.1.1 ∙ loop.0) in
+    deep_over loop.1 first _ (ap (ltb c.args.d) (sym c.particle_depth-depth.ensures)) c.if-m-inner.false (omega (arith, c.particle_depth-depth.ensures))
 
 pub loop-particle-preserved : goal.loop-particle-preserved
 loop-particle-preserved c =
     let loop = c.loop-particle.invariant in
     let step = c.in-Some.ensures.steps in
-    let at = depth_there _ _ _ step.1.0 (step.1.1 ∙ loop.0) c.particle_depth-depth.ensures in
+    let first = front _ _ _ step.1.0 (step.1.1 ∙ loop.0) in
     (step.0 ∙ loop.0,
-      subst (λ (s : Bytes). Deepening _ c.args.d s _) (sym at.rest)
-      (deep_step loop.1 at.long _ (ap (ltb c.args.d) (sym at.depth)) c.if-m-inner.false (omega (arith, at.depth)) c.left-m.ensures))
+      deep_step loop.1 first _ (ap (ltb c.args.d) (sym c.particle_depth-depth.ensures)) c.if-m-inner.false (omega (arith, c.particle_depth-depth.ensures))
+      c.left-m.ensures)
 
 pub returns : goal.returns
 returns c =

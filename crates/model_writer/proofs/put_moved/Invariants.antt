@@ -13,4 +13,4 @@ invariant-loop-particle l =
     (l.particle-iterator.size ≡ particle_size)
     × Along l.s l.start l.at l.particle-iterator.rest.now
     × Going (each particle_bytes (moved (shift l.deeper) l.d l.n (particles_of l.s))) l.initial.out l.start 9223372036854775808 (shift l.deeper) l.d
-        l.particle-iterator.rest.now l.m l.out l.at
+    l.particle-iterator.rest.now l.m l.out l.at

@@ -13,11 +13,7 @@ use rules::GroupKind;
 pub fn group_kind(sort: u32) -> GroupKind
     ensures { result ≡ group_of sort }
 {
-    match sort {
-        0 => GroupKind::Sequence,
-        1 => GroupKind::Sequence,
-        _ => GroupKind::Choice,
-    }
+    u8::try_from(sort).map_or(GroupKind::Choice, GroupKind::from)
 }
 
 /// The edit that makes a group of `count` members.

@@ -15,10 +15,9 @@ fn moved_within(ys: &[u8], d: usize, n: usize) -> bool
     requires { depths_within (particles_of ys.now) ≡ true }
     ensures { result ≡ depths_within (moved (shift true) d n (particles_of ys.now)) }
 {
-    let mut t = ys;
     let mut m = n;
-    while t.len() >= PARTICLE_SIZE {
-        let depth = layout::particle_depth(t) as usize;
+    for particle in ys.chunks_exact(PARTICLE_SIZE) {
+        let depth = layout::particle_depth(particle) as usize;
         let inner = d < depth;
         if (m == 0) & !inner {
             return true;
@@ -27,7 +26,6 @@ fn moved_within(ys: &[u8], d: usize, n: usize) -> bool
             return false;
         }
         m = model_writer::left(inner, m);
-        t = &t[PARTICLE_SIZE..];
     }
     true
 }

@@ -8,7 +8,7 @@ ghost use Rattle.rules.specs.Outcome.{outcome};
 ghost use Rattle.rules.specs.Given.{AnswersBy};
 
 use model_writer::Edit;
-use rules::Refusal;
+use rules::{Quantifier, Refusal};
 
 /// 3: inserts an element into a model; on the spine each instance gets a filling if the quantifier needs one.
 pub fn insert_element(
@@ -40,6 +40,6 @@ pub fn insert_element(
     let p = gap.particle;
     let part = model_places::own_part(store, o);
     let plan = member_plans::inserting_plan(part, o, p, h.spine, i, quantifier);
-    let edit = Edit::Insert(model::read_quantifier(quantifier as u8), i);
+    let edit = Edit::Insert(Quantifier::from(quantifier as u8), i);
     model_edit::edit_model(store, o, edit, h, p, plan, text, out)
 }

@@ -9,3 +9,4 @@ pub mod PositionLaws
 pub mod SpreadLaws
 pub mod WrittenLaws
 pub mod NamedPlaces
+pub mod ChunkLaws

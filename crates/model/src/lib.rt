@@ -4,8 +4,7 @@
 pub mod place;
 
 ghost use Rattle.std.specs.Prelude.{◌≡◌, ◌≤◌, length, drop};
-ghost use Rattle.rules.specs.Layout.{quantifier_code};
-ghost use Rattle.rules.specs.Decode.{quantifier_of, read_particle};
+ghost use Rattle.rules.specs.Decode.{read_particle};
 ghost use Rattle.rules.specs.Model.{skips};
 ghost use Rattle.rules.specs.Quantifiers.{relaxes};
 ghost use Rattle.model.specs.Particle.{what_of, particle_of, kind_in};
@@ -25,24 +24,12 @@ pub struct Particle {
     pub quantifier: Quantifier,
 }
 
-pub fn read_quantifier(b: u8) -> Quantifier
-    ensures { result ≡ quantifier_of b }
-{
-    match b {
-        0 => Quantifier::None,
-        1 => Quantifier::Qmark,
-        2 => Quantifier::Star,
-        _ => Quantifier::Plus,
-    }
-}
-
 fn read_what(sort: u8, n: usize) -> What
     ensures { result ≡ what_of sort n }
 {
     match sort {
         0 => What::Element(n),
-        1 => What::Group(GroupKind::Sequence, n),
-        _ => What::Group(GroupKind::Choice, n),
+        _ => What::Group(GroupKind::from(sort), n),
     }
 }
 
@@ -64,7 +51,7 @@ pub fn read_particle(s: &[u8], at: usize) -> Particle
     let rec = &s[at..];
     let index = layout::particle_index(rec) as usize;
     let what = read_what(layout::particle_sort(rec), index);
-    let quantifier = read_quantifier(layout::particle_quantifier(rec));
+    let quantifier = Quantifier::from(layout::particle_quantifier(rec));
     Particle { what, quantifier }
 }
 
@@ -72,38 +59,17 @@ pub fn read_particle(s: &[u8], at: usize) -> Particle
 pub fn skips(q: Quantifier) -> bool
     ensures { result ≡ skips q }
 {
-    match q {
-        Quantifier::None => false,
-        Quantifier::Qmark => true,
-        Quantifier::Star => true,
-        Quantifier::Plus => false,
-    }
+    matches!(q, Quantifier::Qmark | Quantifier::Star)
 }
 
-// By old and new quantifier, in the order None, Qmark, Star, Plus: every number allowed before is allowed after.
-const RELAXES: [[bool; 4]; 4] = [
-    [true, true, true, true],
-    [false, true, true, false],
-    [false, false, true, false],
-    [false, false, true, true],
-];
-
-/// The number that a quantifier has in the store.
-pub fn quantifier_code(q: Quantifier) -> usize
-    ensures { result ≡ quantifier_code q }
-{
-    match q {
-        Quantifier::None => 0,
-        Quantifier::Qmark => 1,
-        Quantifier::Star => 2,
-        Quantifier::Plus => 3,
-    }
-}
-
+/// Whether every number allowed before is allowed after.
 pub fn relaxes(old: Quantifier, new: Quantifier) -> bool
     ensures { result ≡ relaxes old new }
 {
-    let i = quantifier_code(old);
-    let j = quantifier_code(new);
-    RELAXES[i][j]
+    match old {
+        Quantifier::None => true,
+        Quantifier::Qmark => matches!(new, Quantifier::Qmark | Quantifier::Star),
+        Quantifier::Star => new == Quantifier::Star,
+        Quantifier::Plus => matches!(new, Quantifier::Star | Quantifier::Plus),
+    }
 }

@@ -22,10 +22,10 @@ fn length_after(edit: Edit, n: usize) -> usize
 {
     match edit {
         Edit::Insert(_, _) => n + 1,
-        Edit::Remove => if n == 0 { 0 } else { n - 1 },
+        Edit::Remove => n.saturating_sub(1),
         Edit::Quantify(_) => n,
         Edit::Convert(_, _) => n + 1,
-        Edit::Flatten => if n == 0 { 0 } else { n - 1 },
+        Edit::Flatten => n.saturating_sub(1),
     }
 }
 

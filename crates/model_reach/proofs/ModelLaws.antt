@@ -1,23 +1,30 @@
 -- What the code finds of a model in a store that passes, and the conditions 9, 10 and 11 on it.
-use Prim.Native.Nat.{ℕ, ◌<◌}
+use Prim.Native.Nat.{ℕ, zero, suc, ◌<◌}
 use native.Mathlib.Omega.{arith}
 use mathlib.Core.Path.{◌≡◌, refl, sym, ap, ap₂, ◌∙◌, subst}
 use mathlib.Core.Bool.{Bool, true, false, not, ◌&&◌, ◌||◌, not-not}
-use mathlib.Core.List.{List, [], ◌∷◌, map, Memᴰ}
+use mathlib.Core.List.{List, [], ◌∷◌, ◌++◌, map, Memᴰ}
 use lib.Dec.{eqb}
 use lib.ListN.{length, get_or}
 use Rattle.rules.specs.Bytes.{Bytes, same, bytes, all}
 use Rattle.rules.specs.Model.{names, member}
 use Rattle.rules.specs.Store.{members}
-use Rattle.rules.specs.Layout.{value_width}
+use Rattle.rules.specs.Preorder.{Deep}
+use Rattle.rules.specs.Layout.{value_width, particle_size, FlatParticle}
 use Rattle.rules.specs.Decode.{name_at, read_particle, definition_count}
 use Rattle.rules.specs.WellFormed.{names_in, Reaches, reaches_in}
 use Rattle.rules.specs.Change.{definition_at}
 use Rattle.rules.proofs.WellFormedLaws.{well_formed_lem}
 use Rattle.rules.proofs.Height.{lookup_member, known_found, reaches_known}
+use Rattle.model.specs.declared.What.{What}
+use Rattle.model.specs.declared.What.TheVariants.{Element, Group}
+use Rattle.model.specs.declared.Particle.{Particle}
+use Rattle.model.specs.Particle.{what_of, particle_of}
+use Rattle.model.proofs.ChunkLaws.{Front, front}
 use Rattle.circle_check.specs.Members.{elements_of, members_in}
 use Rattle.circle_check.specs.Deep.{has_height, first_passes}
 use Rattle.circle_check.specs.Avoiding.{Avoids}
+use Rattle.circle_check.proofs.MemberLaws.{all_more}
 use Rattle.circle_check.proofs.CircleLaws.{members_named}
 use Rattle.form_index.specs.Reading.{model_part, by_index}
 use Rattle.store_check.proofs.IndexLaws.{names_of, lookup_at, name_of_lem}
@@ -30,13 +37,27 @@ use Rattle.model_reach.proofs.FormFacts.{Reads}
 use Rattle.model_reach.proofs.ReachLaws.{avoided}
 
 -- ---- one particle
-pub other_first : (t : Bytes) {a b : ℕ} (i : ℕ) → a ≡ (read_particle t).row.sort → b ≡ (read_particle t).row.index
-    → not (eqb a 0 && eqb i b) ≡ first_passes (λ j. not (eqb i j)) t
-other_first t {a} {b} i x y = ap₂ (λ (u v : ℕ). not (eqb u 0 && eqb i v)) x y ∙ by (eqb (read_particle t).row.sort 0)
+-- x is the first particle of t, and s is what follows it
+pub first_and_rest : (p : ℕ → Bool) (t x s : Bytes) → t ≡ x ++ s → length x ≡ particle_size → all p (elements_of t) ≡ (first_passes p x && all p (elements_of s))
+first_and_rest p t x s e h =
+    let w : Front t x s = front t x s e h in
+    all_more p t w.long
+    ∙ ap₂ (λ (b c : Bool). b && c) (ap (λ (q : Deep FlatParticle). elim (eqb q.row.sort 0) [ true ↦ p q.row.index | false ↦ true ]) (sym w.reads))
+    (ap (λ (z : Bytes). all p (elements_of z)) (sym w.rest))
+
+abbrev is_this : ℕ → What → Bool
+is_this i (Element j) = eqb i j
+is_this i (Group k n) = false
+
+-- what was read of it
+pub other_first : (t : Bytes) (p : Particle) (i : ℕ) → p ≡ particle_of (read_particle t) → {w : What} → p.what ≡ w → {b : Bool} → b ≡ is_this i w → not b ≡ first_passes (λ j. not (eqb i j)) t
+unfolding particle_of
+other_first t p i ep {w} e {b} eb =
+    ap not (eb ∙ ap (is_this i) (sym e ∙ ap (λ (q : Particle). q.what) ep)) ∙ by (read_particle t).row.sort (read_particle t).row.index
   where
-    by : (c : Bool) → not (c && eqb i (read_particle t).row.index) ≡ elim c [ true ↦ not (eqb i (read_particle t).row.index) | false ↦ true ]
-    by true = refl
-    by false = refl
+    by : (sort index : ℕ) → not (is_this i (what_of sort index)) ≡ elim (eqb sort 0) [ true ↦ not (eqb i index) | false ↦ true ]
+    by zero index = refl
+    by (suc n) index = refl
 
 module _ (bs : Bytes) (w : Reads bs) where
   pub size : definition_count bs ≡ length (form_in bs)

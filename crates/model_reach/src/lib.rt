@@ -6,20 +6,31 @@ ghost use Rattle.rules.specs.Bytes.{all};
 ghost use Rattle.rules.specs.Decode.{definition_count};
 ghost use Rattle.rules.specs.Passing.{passes};
 ghost use Rattle.circle_check.specs.Members.{elements_of};
+ghost use Rattle.circle_check.specs.Deep.{first_passes};
 ghost use Rattle.store_laws.specs.Stores.{store_in};
 ghost use Rattle.model_reach.specs.Reach.{stands_in_model, comes_round};
+
+use layout::PARTICLE_SIZE;
+use model::What;
+
+// Whether a particle is the element with index i.
+fn is_element(particle: &[u8], i: usize) -> bool
+    ensures { not result ≡ first_passes (λ j. not (eqb i j)) particle.now }
+{
+    match model::read_particle(particle, 0).what {
+        What::Element(j) => i == j,
+        What::Group(_, _) => false,
+    }
+}
 
 // Whether no element among the particles has the index i.
 fn lacks(part: &[u8], i: usize) -> bool
     ensures { result ≡ all (λ j. not (eqb i j)) (elements_of part.now) }
 {
-    let size = layout::particle_size();
-    let mut t = part;
-    while t.len() >= size {
-        if (layout::particle_sort(t) == 0) & (i == layout::particle_index(t) as usize) {
+    for particle in part.chunks_exact(PARTICLE_SIZE) {
+        if is_element(particle, i) {
             return false;
         }
-        t = &t[size..];
     }
     true
 }

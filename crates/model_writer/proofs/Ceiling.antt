@@ -1,5 +1,5 @@
 -- The depths of the particles of a model after an edit.
-use Prim.Native.Nat.{ℕ, zero, suc, ◌-◌, ◌<◌, ◌≤◌}
+use Prim.Native.Nat.{ℕ, zero, suc, ◌<◌, ◌≤◌}
 use native.Mathlib.Omega.{arith}
 use mathlib.Core.Path.{◌≡◌, refl, sym, ap, ◌∙◌}
 use mathlib.Core.Bool.{Bool, true, false, not, ◌&&◌}
@@ -16,10 +16,10 @@ use Rattle.rules.specs.Edit.{Edit, insert, remove, quantify, convert, flatten}
 use Rattle.rules.proofs.Words.{and_both}
 use Rattle.rules.proofs.BooleanLaws.{all_left, all_right}
 use Rattle.rules.specs.Decode.{read_particle}
-use Rattle.codec.proofs.Writers.{tail_seen}
 use Rattle.model.specs.declared.place.Holder.{Holder}
 use Rattle.model.specs.Members.{particles_of}
 use Rattle.model.specs.Places.{Particles}
+use Rattle.model.proofs.ChunkLaws.{Front}
 use Rattle.model.proofs.MembersLaws.{particles_few, particles_more}
 use Rattle.model_writer.specs.declared.Edit.{Edit as EditCode}
 use Rattle.model_writer.specs.PartAfter.{redeep, lower, moved, tail_after, count_after, recounted, part_after}
@@ -82,31 +82,38 @@ module _ {goal : Bool} {d : ℕ} {t : Bytes} {m : ℕ} (v : Deepening goal d t m
   unfolding depths_within moved
   deep_done l = sym (v.same ∙ ap (λ (xs : Particles). depths_within (moved (shift true) d m xs)) (particles_few t l))
 
-  module _ (l : particle_size ≤ length t) (b : Bool) (inner : ltb d (read_particle t).depth ≡ b) where
+  -- x is the first particle of t, and s is what follows it
+  module _ {x s : Bytes} (there : Front t x s) (b : Bool) (deep : ltb d (read_particle x).depth ≡ b) where
+    inner : ltb d (read_particle t).depth ≡ b
+    inner = ap (λ (p : Deep FlatParticle). ltb d p.depth) (sym there.reads) ∙ deep
+
+    depth_there : (read_particle x).depth ≡ (read_particle t).depth
+    depth_there = ap (λ (p : Deep FlatParticle). p.depth) there.reads
+
     pub deep_stop : (eqb m 0 && not b) ≡ true → true ≡ goal
-    deep_stop f = sym (v.same ∙ ap depths_within (moved_none (shift true) d t l b m inner f) ∙ v.still)
+    deep_stop f = sym (v.same ∙ ap depths_within (moved_none (shift true) d t there.long b m inner f) ∙ v.still)
 
     deep_first : (eqb m 0 && not b) ≡ false → goal ≡ (leb (suc (read_particle t).depth) 4 && depths_within (moved (shift true) d (passing b m) (particles_of (drop particle_size t))))
     unfolding depths_within
-    deep_first f = v.same ∙ ap depths_within (moved_first (shift true) d t l b m inner f)
+    deep_first f = v.same ∙ ap depths_within (moved_first (shift true) d t there.long b m inner f)
 
     still_rest : depths_within (particles_of (drop particle_size t)) ≡ true
     unfolding depths_within
-    still_rest = and_right (leb (read_particle t).depth 4) (depths_within (particles_of (drop particle_size t))) (sym (ap depths_within (particles_more t l)) ∙ v.still)
+    still_rest = and_right (leb (read_particle t).depth 4) (depths_within (particles_of (drop particle_size t))) (sym (ap depths_within (particles_more t there.long)) ∙ v.still)
 
-    pub deep_over : (eqb m 0 && not b) ≡ false → 4 ≤ (read_particle t).depth → false ≡ goal
+    pub deep_over : (eqb m 0 && not b) ≡ false → 4 ≤ (read_particle x).depth → false ≡ goal
     deep_over f h =
         sym
         (deep_first f
         ∙ ap (λ (z : Bool). z && depths_within (moved (shift true) d (passing b m) (particles_of (drop particle_size t))))
-        (lt-leb (suc (read_particle t).depth) 4 (omega arith)))
+        (lt-leb (suc (read_particle t).depth) 4 (omega (arith, depth_there))))
 
-    pub deep_step : (eqb m 0 && not b) ≡ false → (read_particle t).depth < 4 → {m' : ℕ} → m' ≡ passing b m → Deepening goal d (take (length t - particle_size) (drop particle_size t)) m'
+    pub deep_step : (eqb m 0 && not b) ≡ false → (read_particle x).depth < 4 → {m' : ℕ} → m' ≡ passing b m → Deepening goal d s m'
     deep_step f h {m'} p =
-        rw (tail_seen t particle_size, p)
+        rw (p, there.rest)
         (record {
           still = still_rest;
-          same = deep_first f ∙ ap (λ (z : Bool). z && depths_within (moved (shift true) d (passing b m) (particles_of (drop particle_size t)))) (le-leb (suc (read_particle t).depth) 4 (omega arith));
+          same = deep_first f ∙ ap (λ (z : Bool). z && depths_within (moved (shift true) d (passing b m) (particles_of (drop particle_size t)))) (le-leb (suc (read_particle t).depth) 4 (omega (arith, depth_there)));
         })
 
 -- ---- the edits

@@ -1,19 +1,22 @@
 -- Particle bytes, particle by particle; and a loop that writes moved particles.
 use Prim.Native.Nat.{ℕ, zero, suc, ◌+◌, ◌-◌, ◌%◌, ◌<◌, ◌≤◌}
 use native.Mathlib.Omega.{arith}
-use mathlib.Core.Path.{◌≡◌, refl, sym, ap, ◌∙◌}
+use mathlib.Core.Path.{◌≡◌, refl, sym, ap, subst, ◌∙◌}
 use mathlib.Core.Bool.{Bool, true, false, not, ◌&&◌, false≢true}
 use mathlib.Core.List.{[], ◌∷◌}
 use borrow.Author.Tests.{ne_eqb}
 use lib.Dec.{ltb, eqb}
-use lib.ListN.{length, take, drop, length-drop}
+use lib.ListN.{length, drop, length-drop}
+use lib.Seq.{drop-drop}
 use Rattle.rules.specs.Bytes.{Bytes}
-use Rattle.rules.specs.Layout.{particle_bytes, each, particle_size}
+use Rattle.rules.specs.Preorder.{Deep}
+use Rattle.rules.specs.Layout.{particle_bytes, each, particle_size, FlatParticle}
 use Rattle.rules.specs.Decode.{read_particle}
 use Rattle.codec.specs.Laid.{Laid}
-use Rattle.codec.proofs.Writers.{tail_seen, laid_none, laid_then, laid_as}
+use Rattle.codec.proofs.Writers.{laid_none, laid_then, laid_as}
 use Rattle.model.specs.Members.{particles_of}
 use Rattle.model.specs.Places.{Particles}
+use Rattle.model.proofs.ChunkLaws.{Front}
 use Rattle.model.proofs.MembersLaws.{particles_few, particles_more}
 use Rattle.model_writer.specs.PartAfter.{redeep, moved}
 use Rattle.model_writer.specs.Writing.{shift, passing, Fitting}
@@ -72,28 +75,48 @@ pub going_all : (out : Bytes) (start bound : ℕ) (g : ℕ → ℕ) (d : ℕ) (s
     → Going (each particle_bytes (moved g d n (particles_of s))) out start bound g d s n out start
 going_all out start bound g d s n h l f = record { whole = h; room = omega arith; fitting = f; long = refl; goes = λ x. x }
 
+-- and t is what is left of s once all from `start` to `at` is written
+pub record Along (s : Bytes) (start at : ℕ) (t : Bytes) : Type 0 where
+  pub from : start ≤ at
+  pub rest : t ≡ drop (at - start) s
+
+pub along_all : (s : Bytes) (start : ℕ) → Along s start start s
+along_all s start = record { from = omega arith; rest = let z : start - start ≡ 0 = omega arith in sym (ap (λ (k : ℕ). drop k s) z) }
+
 module _ {w out₀ : Bytes} {start bound : ℕ} {g : ℕ → ℕ} {d : ℕ} {t : Bytes} {m : ℕ} {out : Bytes} {at : ℕ} (v : Going w out₀ start bound g d t m out at) where
   pub going_done : length t < particle_size → Laid w out₀ start at out
   unfolding moved
   going_done l = v.goes (laid_as (ap (λ (xs : Particles). each particle_bytes (moved g d m xs)) (particles_few t l) ∙ refl) laid_none)
 
-  module _ (l : particle_size ≤ length t) (b : Bool) (inner : ltb d (read_particle t).depth ≡ b) where
+  -- x is the first particle of t, and s is what follows it
+  module _ {x s : Bytes} (there : Front t x s) (b : Bool) (deep : ltb d (read_particle x).depth ≡ b) where
+    inner : ltb d (read_particle t).depth ≡ b
+    inner = ap (λ (p : Deep FlatParticle). ltb d p.depth) (sym there.reads) ∙ deep
+
     pub going_rest : (eqb m 0 && not b) ≡ true → {r : ℕ} {out' : Bytes} → Laid t out at r out' → Laid w out₀ start r out'
-    going_rest f x = v.goes (laid_as (ap (each particle_bytes) (moved_none g d t l b m inner f) ∙ whole t v.whole) x)
+    going_rest f y = v.goes (laid_as (ap (each particle_bytes) (moved_none g d t there.long b m inner f) ∙ whole t v.whole) y)
 
-    pub going_fits : (eqb m 0 && not b) ≡ false → g (read_particle t).depth < 256
+    pub going_fits : (eqb m 0 && not b) ≡ false → g (read_particle x).depth < 256
     unfolding Fitting
-    going_fits f = (rw (moved_first g d t l b m inner f) at v.fitting).0.depth
+    going_fits f =
+        subst (λ (p : Deep FlatParticle). g p.depth < 256) (sym there.reads) (rw (moved_first g d t there.long b m inner f) at v.fitting).0.depth
 
-    pub going_step : (eqb m 0 && not b) ≡ false → {m' r : ℕ} {out' : Bytes} → m' ≡ passing b m → length out' ≡ length out → Laid (particle_bytes (redeep g (read_particle t))) out at r out'
-        → Going w out₀ start bound g d (take (length t - particle_size) (drop particle_size t)) m' out' r
+    pub going_step : (eqb m 0 && not b) ≡ false → {m' r : ℕ} {out' : Bytes} → m' ≡ passing b m → length out' ≡ length out → Laid (particle_bytes (redeep g (read_particle x))) out at r out'
+        → Going w out₀ start bound g d s m' out' r
     unfolding Fitting
-    going_step f {m'} {r} {out'} p long x =
-        rw (tail_seen t particle_size, p)
+    going_step f {m'} {r} {out'} p long y =
+        let first : Laid (particle_bytes (redeep g (read_particle t))) out at r out' =
+        subst (λ (q : Deep FlatParticle). Laid (particle_bytes (redeep g q)) out at r out') there.reads y in
+        rw (p, there.rest)
         (record {
-          whole = omega (arith, v.whole, length-drop particle_size t);
-          room = omega (arith, v.room, x.next, length-drop particle_size t);
-          fitting = (rw (moved_first g d t l b m inner f) at v.fitting).1;
+          whole = omega (arith, v.whole, there.long, length-drop particle_size t);
+          room = omega (arith, v.room, there.long, first.next, length-drop particle_size t);
+          fitting = (rw (moved_first g d t there.long b m inner f) at v.fitting).1;
           long = long ∙ v.long;
-          goes = λ y. v.goes (laid_as (ap (each particle_bytes) (moved_first g d t l b m inner f)) (laid_then x y));
+          goes = λ z. v.goes (laid_as (ap (each particle_bytes) (moved_first g d t there.long b m inner f)) (laid_then first z));
         })
+
+    pub along_on : {z : Bytes} → Along z start at t → {r : ℕ} → r ≡ at + particle_size → Along z start r s
+    along_on {z} k {r} q =
+        let n : at - start + particle_size ≡ r - start = omega (arith, k.from) in
+        record { from = omega (arith, k.from); rest = there.rest ∙ ap (drop particle_size) k.rest ∙ drop-drop particle_size (at - start) z ∙ ap (λ (i : ℕ). drop i z) n }

@@ -2,7 +2,7 @@
 #![tactic(auto)]
 
 ghost use Rattle.std.specs.Prelude.{◌≡◌, ◌+◌, ◌*◌, ◌%◌, ◌<◌, length, take, drop};
-ghost use Rattle.rules.specs.Layout.{particle_size, each, particle_bytes, group_code};
+ghost use Rattle.rules.specs.Layout.{particle_size, each, particle_bytes};
 ghost use Rattle.rules.specs.Edit.{insert, quantify, convert};
 ghost use Rattle.rules.specs.Decode.{read_particle};
 ghost use Rattle.codec.specs.Laid.{Laid};
@@ -31,25 +31,17 @@ fn shifted(depth: u8, deeper: bool) -> u8
     ensures { result ≡ shift deeper depth }
 {
     if deeper {
-        return depth + 1;
+        depth + 1
+    } else {
+        depth.saturating_sub(1)
     }
-    if depth == 0 {
-        return 0;
-    }
-    depth - 1
 }
 
 /// How many members are left to pass after a particle; inner: it is no member itself.
 pub fn left(inner: bool, n: usize) -> usize
     ensures { result ≡ passing inner n }
 {
-    if inner {
-        return n;
-    }
-    if n == 0 {
-        return 0;
-    }
-    n - 1
+    if inner { n } else { n.saturating_sub(1) }
 }
 
 // The first particle of t, with another depth.
@@ -74,31 +66,20 @@ fn put_moved(s: &[u8], d: usize, n: usize, deeper: bool, out: &mut [u8], start: 
     requires { (length s.now % particle_size ≡ 0) × (start + length s.now < 9223372036854775808) × Fitting (moved (shift deeper) d n (particles_of s.now)) }
     ensures { Laid (each particle_bytes (moved (shift deeper) d n (particles_of s.now))) out.old start result out.new }
 {
-    let mut t = s;
     let mut m = n;
     let mut at = start;
-    while t.len() >= PARTICLE_SIZE {
-        let inner = d < layout::particle_depth(t) as usize;
+    for particle in s.chunks_exact(PARTICLE_SIZE) {
+        let inner = d < layout::particle_depth(particle) as usize;
         if (m == 0) & !inner {
-            return codec::put(t, out, at);
+            return codec::put(&s[at - start..], out, at);
         }
-        at = put_shifted(t, deeper, out, at);
+        at = put_shifted(particle, deeper, out, at);
         m = left(inner, m);
-        t = &t[PARTICLE_SIZE..];
     }
     at
 }
 
 // ---- from the place on: the particles ys become those after the edit, where d is the depth there
-
-fn group_code(kind: GroupKind) -> u8
-    ensures { result ≡ group_code kind }
-{
-    match kind {
-        GroupKind::Sequence => 1,
-        GroupKind::Choice => 2,
-    }
-}
 
 fn put_inserted(
     ys: &[u8],
@@ -111,7 +92,7 @@ fn put_inserted(
     requires { Tail (insert q index) d ys.now at }
     ensures { Laid (each particle_bytes (tail_after (insert q index) d (particles_of ys.now))) out.old at result out.new }
 {
-    let code = model::quantifier_code(q) as u8;
+    let code = u8::from(q);
     let next = layout_writer::put_particle(0, code, index as u8, d as u8, out, at);
     codec::put(ys, out, next)
 }
@@ -123,7 +104,7 @@ fn put_requantified(ys: &[u8], q: Quantifier, d: usize, out: &mut [u8], at: usiz
     if ys.len() < PARTICLE_SIZE {
         return at;
     }
-    let code = model::quantifier_code(q) as u8;
+    let code = u8::from(q);
     let next = layout_writer::put_particle(
         layout::particle_sort(ys),
         code,
@@ -139,7 +120,8 @@ fn put_grouped(ys: &[u8], kind: GroupKind, n: usize, d: usize, out: &mut [u8], a
     requires { Tail (convert kind n) d ys.now at }
     ensures { Laid (each particle_bytes (tail_after (convert kind n) d (particles_of ys.now))) out.old at result out.new }
 {
-    let next = layout_writer::put_particle(group_code(kind), 0, n as u8, d as u8, out, at);
+    let code = u8::from(kind);
+    let next = layout_writer::put_particle(code, 0, n as u8, d as u8, out, at);
     put_moved(ys, d, n, true, out, next)
 }
 
@@ -165,10 +147,10 @@ fn count_after(ys: &[u8], edit: Edit, n: usize) -> usize
 {
     match edit {
         Edit::Insert(_, _) => n + 1,
-        Edit::Remove => layout::minus(n, 1),
+        Edit::Remove => n.saturating_sub(1),
         Edit::Quantify(_) => n,
-        Edit::Convert(_, m) => layout::minus(n + 1, m),
-        Edit::Flatten => layout::minus(n + layout::particle_index(ys) as usize, 1),
+        Edit::Convert(_, m) => (n + 1).saturating_sub(m),
+        Edit::Flatten => (n + layout::particle_index(ys) as usize).saturating_sub(1),
     }
 }
 

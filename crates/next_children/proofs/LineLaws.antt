@@ -21,7 +21,7 @@ use Rattle.sets.specs.Sets.{has, bit, union, whole_if}
 use Rattle.sets.proofs.Laws.{has_none, has_first, has_bit, has_union, has_given}
 use Rattle.model.specs.Steps.{steps, finishes}
 use Rattle.model.proofs.FactsLaws.{facts_nothing, or_never}
-use Rattle.next_children.specs.declared.Nexts.{Nexts}
+use Rattle.automaton.specs.declared.Nexts.{Nexts}
 use Rattle.next_children.specs.Nexts.{Told}
 use Rattle.next_children.specs.Names.{After}
 use Rattle.next_children.specs.Line.{Filled, NextsLaid}
@@ -57,7 +57,7 @@ alike_facts k (group q j ms rest) x z y =
     (alike_quantify q (facts numbers j ms x y) (facts numbers j ms z y) (alike_facts j ms x z y)) (alike_facts k rest x z y)
 
 -- ---- what the sets of a whole model say of the automaton
-module _ (ms : Members ℕ) (x : ℕ) (r : Nexts) (t : Told r (λ y. facts numbers Sequence ms x y)) where
+module _ (ms : Members ℕ) (x : ℕ) (r : Nexts ℕ) (t : Told r (λ y. facts numbers Sequence ms x y)) where
   first_steps : (y : ℕ) → y < 64 → has r.first y ≡ steps ms 0 y
   unfolding steps
   first_steps y h = t.first_is y h ∙ (alike_facts Sequence ms x y y).first_same
@@ -99,7 +99,7 @@ ends_more x last old b f eb eo = by (ltb last x) refl (eqb last x) refl
         rw (eo, e, q, le-ltb last (suc x) (omega (arith, ltb-false last x e, z))) (and-false b)
 
 module _ (n : ℕ) (ms : Members ℕ) (t : List ℕ) (at x ends : ℕ) (t' : List ℕ) (l : Filling n ms t at x ends t') (small : n ≤ 64) (room : at + 67 ≤ length t) where
-  pub filling_on : x < n → (r : Nexts) → After ms x r → (one more all : ℕ) → one ≡ bit x → more ≡ whole_if r.last one → all ≡ union ends more
+  pub filling_on : x < n → (r : Nexts ℕ) → After ms x r → (one more all : ℕ) → one ≡ bit x → more ≡ whole_if r.last one → all ≡ union ends more
       → Filling n ms t at (x + 1) all (set t' (at + 1 + x) r.follow)
   filling_on h r after one more all e₁ e₂ e₃ =
       record {
@@ -130,7 +130,7 @@ module _ (n : ℕ) (ms : Members ℕ) (t : List ℕ) (at x ends : ℕ) (t' : Lis
 
 -- ---- the whole line
 module _ (n : ℕ) (ms : Members ℕ) (t : List ℕ) (at ends : ℕ) (t' : List ℕ) (l : NextsLaid ms t at n ends t') (long : length t' ≡ length t) (small : n ≤ 64) (room : at + 67 ≤ length t)
-    (none : Nexts) (told : Told none (λ y. facts numbers Sequence ms 0 y)) (more : ℕ) (e : more ≡ whole_if none.nothing 1) where
+    (none : Nexts ℕ) (told : Told none (λ y. facts numbers Sequence ms 0 y)) (more : ℕ) (e : more ≡ whole_if none.nothing 1) where
   abbrev written : List ℕ
   written = set (set (set t' at none.first) (at + 65) ends) (at + 66) more
 

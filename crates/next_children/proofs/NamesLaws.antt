@@ -1,11 +1,12 @@
 -- An element that no particle names has no place in a word of the model.
-use mathlib.Core.Path.{◌≡◌, refl, sym, ap, ◌∙◌}
+use mathlib.Core.Path.{◌≡◌, refl, sym, ap, subst, ◌∙◌}
 use mathlib.Core.Bool.{Bool, true, false, false≢true, and-false}
-use Prim.Native.Nat.{ℕ, zero, suc, ◌-◌, ◌<◌, ◌≤◌}
+use mathlib.Core.List.{◌++◌}
+use Prim.Native.Nat.{ℕ, zero, suc, ◌<◌, ◌≤◌}
 use native.Mathlib.Omega.{arith}
 use borrow.Author.Tests.{ltb-true, ltb-false, eqb-true, eqb-false, ne_eqb, eq-eqb}
 use lib.Dec.{eqb, ltb}
-use lib.ListN.{length, take, drop}
+use lib.ListN.{length, drop}
 use Rattle.rules.specs.declared.Facts.{Facts}
 use Rattle.rules.specs.declared.Quantifier.{Quantifier}
 use Rattle.rules.specs.declared.Quantifier.TheVariants.{None, Qmark, Star, Plus}
@@ -14,17 +15,20 @@ use Rattle.rules.specs.declared.GroupKind.TheVariants.{Sequence, Choice}
 use Rattle.rules.specs.Bytes.{Bytes, numbers}
 use Rattle.rules.specs.Decode.{read_particle}
 use Rattle.rules.specs.Automaton.{single, empty, join, quantify_facts, facts}
-use Rattle.rules.specs.Layout.{particle_size}
-use Rattle.codec.proofs.Writers.{tail_seen}
+use Rattle.rules.specs.Preorder.{Deep}
+use Rattle.rules.specs.Layout.{particle_size, FlatParticle}
 use Rattle.sets.specs.Sets.{has, bit, union}
 use Rattle.sets.proofs.Laws.{has_none, has_bit, has_union}
+use Rattle.model.specs.declared.What.TheVariants.{Element, Group}
+use Rattle.model.specs.declared.Particle.{Particle}
 use Rattle.model.specs.Particle.{what_of, particle_of, kind_in, particle_facts, first_facts}
 use Rattle.model.specs.Members.{members_from, all_members}
 use Rattle.model.specs.Steps.{steps, finishes}
+use Rattle.model.proofs.ChunkLaws.{Front, front}
 use Rattle.model.proofs.FactsLaws.{facts_few, facts_stop, facts_here}
 use Rattle.model.proofs.MembersLaws.{members_deeper}
-use Rattle.next_children.specs.declared.Nexts.{Nexts}
-use Rattle.next_children.specs.Nexts.{Told, nexts_empty}
+use Rattle.automaton.specs.declared.Nexts.{Nexts}
+use Rattle.next_children.specs.Nexts.{Told}
 use Rattle.next_children.specs.Names.{Never, Absent, FirstName, NamesIn, After}
 use Rattle.rules.proofs.Words.{or_split}
 
@@ -77,9 +81,23 @@ absent_on x s h differs rest k d y = by (ltb d (read_particle s).depth) refl (eq
         never_as _ _ (facts_stop d k x y s h (omega (arith, ltb-false d (read_particle s).depth e, z))) (never_empty k)
 
 -- ---- the set of the first particle
-pub first_some : (s : Bytes) (i r : ℕ) → i ≡ (read_particle s).row.index → r ≡ bit i → FirstName s r
-first_some s i r e er =
-    record { other = λ x h f z q. false≢true (sym f ∙ ap (λ (n : ℕ). has n x) er ∙ has_bit i x h ∙ eq-eqb x i (sym q ∙ sym e)) }
+module _ (s : Bytes) (p : Particle) (r : ℕ) (ep : p ≡ particle_of (read_particle s)) where
+  -- of sort 0
+  here : (read_particle s).row.sort ≡ 0 → p.what ≡ Element (read_particle s).row.index
+  unfolding particle_of
+  here z = ap (λ (q : Particle). q.what) ep ∙ ap (λ (n : ℕ). what_of n (read_particle s).row.index) z
+
+  pub first_some : (i : ℕ) → p.what ≡ Element i → r ≡ bit i → FirstName s r
+  first_some i w er =
+      record {
+        other =
+            λ x h f z q. let e : Element (read_particle s).row.index ≡ Element i = sym (here z) ∙ w in
+            let same : (read_particle s).row.index ≡ i = cc in
+            false≢true (sym f ∙ ap (λ (n : ℕ). has n x) er ∙ has_bit i x h ∙ eq-eqb x i (sym q ∙ same));
+      }
+
+  pub first_other : (k : GroupKind) (n : ℕ) → p.what ≡ Group k n → FirstName s r
+  first_other k n w = record { other = λ x h f z q. let e : Element (read_particle s).row.index ≡ Group k n = sym (here z) ∙ w in cc }
 
 -- ---- the loop over the particles: an index that is absent from what is left, and not in the set, is absent from all
 pub record Naming (s t : Bytes) (r : ℕ) : Type 0 where
@@ -88,28 +106,30 @@ pub record Naming (s t : Bytes) (r : ℕ) : Type 0 where
 pub naming_starts : (s : Bytes) → Naming s s 0
 naming_starts s = record { absent = λ x h f a. a }
 
-pub naming_on : (s t : Bytes) (r : ℕ) → Naming s t r → particle_size ≤ length t → (first r' : ℕ) → FirstName t first → r' ≡ union r first
-    → Naming s (take (length t - particle_size) (drop particle_size t)) r'
-naming_on s t r n h first r' f e =
+pub naming_on : (s t : Bytes) (r : ℕ) → Naming s t r → (x rest : Bytes) → t ≡ x ++ rest → length x ≡ particle_size → (first r' : ℕ) → FirstName x first → r' ≡ union r first → Naming s rest r'
+naming_on s t r n x rest is long first r' f e =
+    let w : Front t x rest = front t x rest is long in
+    let there : FirstName t first =
+    record { other = λ y k out z q. f.other y k out (ap (λ (p : Deep FlatParticle). p.row.sort) w.reads ∙ z) (ap (λ (p : Deep FlatParticle). p.row.index) w.reads ∙ q) } in
     record {
       absent =
-          λ x k out a. let o : (has r x ≡ false) × (has first x ≡ false) = or_split (has r x) (has first x) (sym (has_union r first x) ∙ ap (λ (i : ℕ). has i x) (sym e) ∙ out) in
-          n.absent x k o.0 (absent_on x t h (f.other x k o.1) (rw (tail_seen t particle_size) at a));
+          λ y k out a. let o : (has r y ≡ false) × (has first y ≡ false) = or_split (has r y) (has first y) (sym (has_union r first y) ∙ ap (λ (i : ℕ). has i y) (sym e) ∙ out) in
+          n.absent y k o.0 (absent_on y t w.long (there.other y k o.1) (subst (λ (z : Bytes). Absent y z) w.rest a));
     }
 
 pub naming_ends : (s t : Bytes) (r : ℕ) → Naming s t r → length t < particle_size → NamesIn s r
 naming_ends s t r n h = record { absent = λ x k out. n.absent x k out (absent_few x t h) }
 
 -- ---- what follows a child
-pub after_named : (ms : Bytes) (x : ℕ) (r : Nexts) → Told r (λ y. facts numbers Sequence (all_members ms) x y) → After (all_members ms) x r
+pub after_named : (ms : Bytes) (x : ℕ) (r : Nexts ℕ) → Told r (λ y. facts numbers Sequence (all_members ms) x y) → After (all_members ms) x r
 unfolding steps finishes
 after_named ms x r t = record { last_is = t.last_is x; follow_is = λ y h. t.follow_is y h }
 
-pub after_other : (ms : Bytes) (names x : ℕ) (b : Bool) (r : Nexts) → NamesIn ms names → x < 64 → b ≡ has names x → b ≡ false → r ≡ nexts_empty Choice → After (all_members ms) x r
+pub after_other : (ms : Bytes) (names x : ℕ) (b : Bool) (r : Nexts ℕ) → NamesIn ms names → x < 64 → b ≡ has names x → b ≡ false → r.last ≡ false → r.follow ≡ 0 → After (all_members ms) x r
 unfolding steps finishes
-after_other ms names x b r n h e f er =
+after_other ms names x b r n h e f el ef =
     let a : Absent x ms = n.absent x h (sym e ∙ f) in
     record {
-      last_is = ap (λ (z : Nexts). z.last) er ∙ sym (a Sequence 0 x).last_not;
-      follow_is = λ y k. ap (λ (z : Nexts). has z.follow y) er ∙ has_none y ∙ sym (a Sequence 0 y).follow_not;
+      last_is = el ∙ sym (a Sequence 0 x).last_not;
+      follow_is = λ y k. ap (λ (z : ℕ). has z y) ef ∙ has_none y ∙ sym (a Sequence 0 y).follow_not;
     }

@@ -9,7 +9,7 @@ use Rattle.rules.specs.Decode.{read_particle}
 use Rattle.sets.specs.Sets.{has}
 use Rattle.model.specs.Members.{members_from}
 use Rattle.model.specs.Steps.{steps, finishes}
-use Rattle.next_children.specs.declared.Nexts.{Nexts}
+use Rattle.automaton.specs.declared.Nexts.{Nexts}
 
 -- facts of an x that no word has
 pub record Never (f : Facts) : Type 0 where
@@ -29,6 +29,6 @@ pub record NamesIn (s : Bytes) (r : ℕ) : Type 0 where
   pub absent : (x : ℕ) → x < 64 → has r x ≡ false → Absent x s
 
 -- r says what follows x, and whether no child is owed after it
-pub record After (ms : Members ℕ) (x : ℕ) (r : Nexts) : Type 0 where
+pub record After (ms : Members ℕ) (x : ℕ) (r : Nexts ℕ) : Type 0 where
   pub last_is : r.last ≡ finishes ms (suc x)
   pub follow_is : (y : ℕ) → y < 64 → has r.follow y ≡ steps ms (suc x) y

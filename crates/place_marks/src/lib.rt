@@ -6,14 +6,14 @@ ghost use Rattle.std.specs.Prelude.{◌≡◌, ◌≤◌};
 ghost use Rattle.circle_check.specs.Members.{elements_of};
 ghost use Rattle.place_marks.specs.Marking.{marked_first, marked, marks_at};
 
-use layout::MAX_DEFINITIONS;
+use layout::{MAX_DEFINITIONS, PARTICLE_SIZE};
+use model::What;
 
-// The value for the definition of the first particle, if that is an element (sort 0).
-fn mark_first(particles: &[u8], value: u8, marks: &mut [u8])
-    ensures { marks.new ≡ marked_first value particles.now marks.old }
+// The value for the definition of a particle, if that is an element.
+fn mark_first(particle: &[u8], value: u8, marks: &mut [u8])
+    ensures { marks.new ≡ marked_first value particle.now marks.old }
 {
-    if layout::particle_sort(particles) == 0 {
-        let i = layout::particle_index(particles) as usize;
+    if let What::Element(i) = model::read_particle(particle, 0).what {
         codec::store(marks, i, value);
     }
 }
@@ -22,11 +22,8 @@ fn mark_first(particles: &[u8], value: u8, marks: &mut [u8])
 fn mark(particles: &[u8], value: u8, marks: &mut [u8])
     ensures { marks.new ≡ marked value (elements_of particles.now) marks.old }
 {
-    let size = layout::particle_size();
-    let mut t = particles;
-    while t.len() >= size {
-        mark_first(t, value, marks);
-        t = &t[size..];
+    for particle in particles.chunks_exact(PARTICLE_SIZE) {
+        mark_first(particle, value, marks);
     }
 }
 
@@ -35,9 +32,8 @@ pub fn marks(part: &[u8], p: usize, n: usize) -> [u8; MAX_DEFINITIONS]
     requires { (p ≤ 256) × (n ≤ 257) }
     ensures { result ≡ marks_at n p part.now }
 {
-    let size = layout::particle_size();
-    let start = layout::times(size, p);
-    let long = layout::times(size, n);
+    let start = PARTICLE_SIZE * p;
+    let long = PARTICLE_SIZE * n;
     let mut of = [0; MAX_DEFINITIONS];
     mark(layout::window(part, 0, start), 1, &mut of);
     mark(layout::window(part, start, long), 2, &mut of);

@@ -8,7 +8,7 @@ ghost use Rattle.rules.specs.Given.{AnswersBy};
 ghost use Rattle.quantifier_refusals.specs.Requantifying.{requantify};
 
 use model_writer::Edit;
-use rules::Refusal;
+use rules::{Quantifier, Refusal};
 
 /// 5 and 8: changes the quantifier of an element, or of a group.
 pub fn requantify(
@@ -35,7 +35,7 @@ pub fn requantify(
         return store_writer::refused(number);
     }
     let o = owner as usize;
-    let new = model::read_quantifier(quantifier as u8);
+    let new = Quantifier::from(quantifier as u8);
     let part = model_places::own_part(store, o);
     let h = found.holder;
     let p = found.particle;

@@ -101,7 +101,7 @@ pub fn requantify_refusal(
     if early != 0 {
         return model_places::refused(early);
     }
-    let new = model::read_quantifier(quantifier as u8);
+    let new = Quantifier::from(quantifier as u8);
     let x = model_places::pick(store, owner, place);
     match x {
         Picked::Element(h, p, old) => {

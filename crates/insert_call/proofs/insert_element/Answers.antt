@@ -59,7 +59,7 @@ edit_model-requires c =
     let none = sym c.insert_element_refusal-gap.ensures.0 ∙ c.if-number-ne0.false in
     let inserted = insertion a.store.now (passed a.store.now (ap not c.if-not-passes.false) c.passes.ensures) a.owner a.place.now a.definition a.quantifier a.text.now none in
     let place = c.insert_element_refusal-gap.ensures.1.found c.if-number-ne0.false in (
-      asks inserted.fits (Insert _ a.definition) (edit_same inserted c.read_quantifier.ensures) place,
+      asks inserted.fits (Insert _ a.definition) (edit_same inserted c.from.ensures) place,
       inserted.text,
       inserting_sized inserted _ _ c.inserting_plan-plan.ensures,
     )
@@ -70,5 +70,5 @@ returns c =
     let none = sym c.insert_element_refusal-gap.ensures.0 ∙ c.if-number-ne0.false in
     let inserted = insertion a.store.now (passed a.store.now (ap not c.if-not-passes.false) c.passes.ensures) a.owner a.place.now a.definition a.quantifier a.text.now none in
     let place = c.insert_element_refusal-gap.ensures.1.found c.if-number-ne0.false in
-    inserted_answers inserted c.read_quantifier.ensures place c.own_part-part.ensures (length a.out.now)
+    inserted_answers inserted c.from.ensures place c.own_part-part.ensures (length a.out.now)
     c.inserting_plan-plan.ensures c.edit_model.ensures

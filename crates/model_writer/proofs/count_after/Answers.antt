@@ -4,7 +4,6 @@
 use mathlib.Core.Path.{sym, ap, ◌∙◌}
 use Prim.Native.Nat.{ℕ, ◌+◌, ◌-◌}
 use Rattle.model_writer.proofs.HeadWriting.{count_case, first_index}
-use borrow.Author.Rules.{rules}
 use Rattle.model_writer.proofs.count_after.Goals as goal
 
 pub returns-in-Insert : goal.returns-in-Insert
@@ -13,7 +12,7 @@ returns-in-Insert c =
 
 pub returns-in-Remove : goal.returns-in-Remove
 returns-in-Remove c =
-    c.minus.ensures ∙ count_case _ c.args.n c.in-Remove.is
+    c.saturating_sub.ensures ∙ count_case _ c.args.n c.in-Remove.is
 
 pub returns-in-Quantify : goal.returns-in-Quantify
 returns-in-Quantify c =
@@ -21,9 +20,9 @@ returns-in-Quantify c =
 
 pub returns-in-Convert : goal.returns-in-Convert
 returns-in-Convert c =
-    c.minus-in-Convert.ensures ∙ count_case _ c.args.n c.in-Convert.is
+    c.saturating_sub-in-Convert.ensures ∙ count_case _ c.args.n c.in-Convert.is
 
 pub returns-in-Flatten : goal.returns-in-Flatten
 returns-in-Flatten c =
-    c.minus-in-Flatten.ensures ∙ ap (λ (k : ℕ). c.args.n + k - 1) (c.particle_index.ensures ∙ sym (first_index c.args.ys.now c.requires.0))
+    c.saturating_sub-in-Flatten.ensures ∙ ap (λ (k : ℕ). c.args.n + k - 1) (c.particle_index.ensures ∙ sym (first_index c.args.ys.now c.requires.0))
     ∙ count_case _ c.args.n c.in-Flatten.is

@@ -6,7 +6,6 @@ use native.Mathlib.Omega.{arith}
 use Rattle.codec.proofs.Writers.{laid_as, laid_then}
 use Rattle.model_writer.proofs.WritingLaws.{particle_same}
 use Rattle.model_writer.proofs.TailWriting.{grouped_index, grouped_depth, grouped_fits, grouped_bytes}
-use borrow.Author.Rules.{rules}
 use Rattle.model_writer.proofs.put_grouped.Goals as goal
 
 pub overflow_cast-n : goal.overflow_cast-n
@@ -28,5 +27,5 @@ put_moved-requires c =
 pub returns : goal.returns
 returns c =
     laid_as (grouped_bytes c.requires)
-    (laid_then (laid_as (particle_same c.group_code.ensures refl refl refl) c.put_particle-next.ensures)
+    (laid_then (laid_as (particle_same c.from-code.ensures refl refl refl) c.put_particle-next.ensures)
     c.put_moved.ensures)

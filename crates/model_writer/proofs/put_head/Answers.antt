@@ -7,7 +7,6 @@ use native.Mathlib.Omega.{arith}
 use Rattle.codec.proofs.Writers.{laid_as, laid_then}
 use Rattle.layout.proofs.LayoutLaws.{length_cut}
 use Rattle.model_writer.proofs.HeadWriting.{head_top, head_split, head_fits, head_group}
-use borrow.Author.Rules.{rules}
 use Rattle.rules.specs.Layout.{particle_size}
 use Rattle.model_writer.proofs.put_head.Goals as goal
 

@@ -1,18 +1,12 @@
 -- `model_writer::put_inserted` meets its contract: the particle of the element and then `ys` are the bytes after the
--- edit (`laid_then` of Writers, `inserted_bytes` of TailWriting). Its index, its depth (`inserted_index`,
--- `inserted_depth`) and its quantifier's code (`code_small` of Codes) are bytes.
+-- edit (`laid_then` of Writers, `inserted_bytes` of TailWriting). Its index and its depth are bytes
+-- (`inserted_index`, `inserted_depth`).
 use mathlib.Core.Path.{refl}
 use native.Mathlib.Omega.{arith}
 use Rattle.codec.proofs.Writers.{laid_as, laid_then}
 use Rattle.model_writer.proofs.WritingLaws.{particle_same}
 use Rattle.model_writer.proofs.TailWriting.{inserted_index, inserted_depth, inserted_bytes}
-use borrow.Author.Rules.{rules}
-use Rattle.model.proofs.Codes.{code_small}
 use Rattle.model_writer.proofs.put_inserted.Goals as goal
-
-pub overflow_cast-code : goal.overflow_cast-code
-overflow_cast-code c =
-    omega (arith, code_small c.args.q, c.quantifier_code-code.ensures)
 
 pub overflow_cast-index : goal.overflow_cast-index
 overflow_cast-index c =
@@ -33,5 +27,5 @@ put-requires c =
 pub returns : goal.returns
 returns c =
     laid_as (inserted_bytes c.requires)
-    (laid_then (laid_as (particle_same refl c.quantifier_code-code.ensures refl refl) c.put_particle-next.ensures)
+    (laid_then (laid_as (particle_same refl c.from-code.ensures refl refl) c.put_particle-next.ensures)
     c.put.ensures)

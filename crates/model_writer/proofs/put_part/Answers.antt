@@ -4,7 +4,6 @@
 use native.Mathlib.Omega.{arith}
 use Rattle.codec.proofs.Writers.{laid_as, laid_then}
 use Rattle.model_writer.proofs.HeadWriting.{part_head, part_tail, part_bytes}
-use borrow.Author.Rules.{rules}
 use Rattle.model_writer.proofs.put_part.Goals as goal
 
 pub put_head-next-requires : goal.put_head-next-requires

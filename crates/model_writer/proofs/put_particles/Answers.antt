@@ -10,7 +10,6 @@ use Rattle.rules.specs.Layout.{particle_size}
 use Rattle.codec.proofs.Writers.{laid_as, laid_then}
 use Rattle.layout.proofs.LayoutLaws.{length_cut}
 use Rattle.model_writer.proofs.BodyWriting.{length_few, body_bytes, body_part}
-use borrow.Author.Rules.{rules}
 use Rattle.model_writer.proofs.put_particles.Goals as goal
 
 pub put_part-end-requires : goal.put_part-end-requires

@@ -7,7 +7,6 @@ use Rattle.model.specs.Members.{particles_of}
 use Rattle.model_writer.specs.PartAfter.{count_after}
 use Rattle.model_writer.specs.Writing.{edit_of}
 use Rattle.model_writer.proofs.WritingLaws.{particle_same}
-use borrow.Author.Rules.{rules}
 use Rattle.model_writer.proofs.put_recounted.Goals as goal
 
 pub overflow_cast-count : goal.overflow_cast-count

@@ -5,7 +5,6 @@ use Prim.Native.Nat.{ℕ}
 use Rattle.codec.proofs.Writers.{laid_as}
 use Rattle.model_writer.specs.Writing.{shift}
 use Rattle.model_writer.proofs.WritingLaws.{particle_same}
-use borrow.Author.Rules.{rules}
 use Rattle.model_writer.proofs.put_shifted.Goals as goal
 
 pub shifted-depth-requires : goal.shifted-depth-requires

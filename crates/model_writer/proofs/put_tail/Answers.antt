@@ -8,7 +8,6 @@ use Rattle.rules.specs.Bytes.{Bytes}
 use Rattle.rules.specs.Layout.{particle_size}
 use Rattle.codec.proofs.Writers.{laid_as}
 use Rattle.model_writer.proofs.TailWriting.{removed_bytes, flattened_whole, flattened_room, flattened_fits, flattened_bytes, tail_as, tail_bytes}
-use borrow.Author.Rules.{rules}
 use Rattle.model_writer.proofs.put_tail.Goals as goal
 
 pub put_inserted-requires : goal.put_inserted-requires

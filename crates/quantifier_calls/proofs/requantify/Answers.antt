@@ -58,7 +58,7 @@ edit_model-requires c =
     let none = sym c.requantify_refusal-found.ensures.0 ∙ c.if-number-ne0.false in
     let given = conditions-given a.store.now (passed a.store.now (ap not c.if-not-passes.false) c.passes.ensures) a.owner a.place.now a.quantifier a.text.now a.group none in
     let place = c.requantify_refusal-found.ensures.1.found c.if-number-ne0.false in
-    let new = c.read_quantifier-new.ensures in (
+    let new = c.from-new.ensures in (
       edits_there given.fits place new,
       given.value,
       given_sized place c.own_part-part.ensures new a.group given c.new_plan-plan.ensures,
@@ -70,5 +70,5 @@ returns c =
     let none = sym c.requantify_refusal-found.ensures.0 ∙ c.if-number-ne0.false in
     let given = conditions-given a.store.now (passed a.store.now (ap not c.if-not-passes.false) c.passes.ensures) a.owner a.place.now a.quantifier a.text.now a.group none in
     let place = c.requantify_refusal-found.ensures.1.found c.if-number-ne0.false in
-    given_answers place c.own_part-part.ensures c.read_quantifier-new.ensures a.group given c.new_plan-plan.ensures
+    given_answers place c.own_part-part.ensures c.from-new.ensures a.group given c.new_plan-plan.ensures
     (length a.out.now) _ c.requantify_refusal-found.ensures.0 c.if-number-ne0.false c.edit_model.ensures

@@ -52,7 +52,7 @@ returns-else-group c =
     located_there
     (element_there a.store.now (whole _ c.requires) a.owner a.place.now a.quantifier a.text.now
     c.early_refusal-early.ensures c.if-early-ne0.false a.group c.if-group.false element
-    c.read_quantifier-new.ensures c.quantifier_at-number.ensures)
+    c.from-new.ensures c.quantifier_at-number.ensures)
     c.at_place.ensures element.placed
 
 pub returns-else-not-group : goal.returns-else-not-group
@@ -62,7 +62,7 @@ returns-else-not-group c =
     located_there
     (group_there a.store.now (whole _ c.requires) a.owner a.place.now a.quantifier a.text.now
     c.early_refusal-early.ensures c.if-early-ne0.false a.group c.if-not-group.false group
-    c.read_quantifier-new.ensures c.quantifier_at-number-in-Group.ensures)
+    c.from-new.ensures c.quantifier_at-number-in-Group.ensures)
     c.at_place-in-Group.ensures group.placed
 
 pub returns-in-Absent : goal.returns-in-Absent

@@ -68,17 +68,16 @@ module _ (bs : Bytes) (o : ℕ) (n : Bytes) (k : ℕ) (v : Bytes) (x : Addable b
   kept : Holds bs
   kept = holds bs x.passes
 
-  pub added_full : (room : ℕ) {a number len : ℕ} {out : Bytes} → Number (attribute_count bs) a → 64 ≤ a → (number ≡ 16) × (len ≡ 0)
-      → Answers (limited room (added o n k v (bodies_of bs))) out number len out
+  pub added_full : (room : ℕ) {a : ℕ} {out : Bytes} → Number (attribute_count bs) a → 64 ≤ a
+      → Answers (limited room (added o n k v (bodies_of bs))) out 16 0 out
   unfolding added
-  added_full room {out = out} e l (n_is, l-is) =
+  added_full room {out = out} e l =
       let f : FlatStore = bodies_of bs in
       let i : ℕ = attributes_to o f.attributes in
       let c : FlatAttribute = new_entry o n k v in
       let over : within_ceilings (bare_form (attribute_added i c f)) ≡ false =
       added_ceiling i f (good_bodies kept) (within kept) c ∙ lt-leb (suc (length f.attributes)) 64 (omega (arith, number_of_attributes bs e)) in
-      let a : Answers (limited room (added o n k v f)) out 16 0 out = form_ceiling (attribute_added i c f) over (add_attribute_plan f.version o i k) v f room in
-      record { number_is = n_is ∙ a.number_is; length_is = l-is ∙ a.length_is; buffer_is = a.buffer_is }
+      form_ceiling (attribute_added i c f) over (add_attribute_plan f.version o i k) v f room
 
   module _ {d p a i r : ℕ} {q : Plan} {buffer left : Bytes} (cd : Number (definition_count bs) d) (cp : Number (particle_count bs) p)
       (ca : Number (attribute_count bs) a) (few : a < 64) (to : To o (bodies_of bs).attributes i)

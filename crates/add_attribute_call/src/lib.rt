@@ -4,13 +4,14 @@
 
 ghost use Rattle.std.specs.Prelude.{length};
 ghost use Rattle.rules.specs.Change.{add_attribute};
-ghost use Rattle.rules.specs.Outcome.{outcome, Answers};
+ghost use Rattle.rules.specs.Outcome.{outcome};
+ghost use Rattle.rules.specs.Given.{AnswersBy};
 ghost use Rattle.lookup.specs.Bodies.{bodies_of};
 ghost use Rattle.store_writer.specs.Writing.{limited};
 ghost use Rattle.attribute_writer.specs.Attributes.{Addable};
 ghost use Rattle.add_attribute_call.specs.Added.{added};
 
-use store_writer::Answer;
+use rules::Refusal;
 
 // The store with a new attribute, the last of its owner.
 fn write_added(
@@ -20,16 +21,16 @@ fn write_added(
     sort: u32,
     value: &[u8],
     out: &mut [u8],
-) -> Answer
+) -> Result<usize, Refusal>
     requires { Addable store.now owner name.now sort value.now }
-    ensures { Answers (limited (length out.old) (added owner name.now sort value.now (bodies_of store.now)))
-        out.old result.number result.length out.new }
+    ensures { AnswersBy (limited (length out.old) (added owner name.now sort value.now (bodies_of store.now)))
+        out.old result out.new }
 {
     let d = layout::definition_count(store);
     let p = layout::particle_count(store);
     let a = layout::attribute_count(store);
     if store_limits::attributes_full(a) {
-        return store_writer::refused(16);
+        return Err(Refusal::Ceiling);
     }
     let i = attribute_form::attributes_to(store, owner);
     let plan = attribute_plans::adding_plan(store, owner, i, sort);
@@ -46,16 +47,13 @@ pub fn add_attribute(
     sort: u32,
     value: &[u8],
     out: &mut [u8],
-) -> Answer
-    ensures { Answers (outcome (add_attribute owner name.now sort value.now) store.now (length out.old))
-        out.old result.number result.length out.new }
+) -> Result<usize, Refusal>
+    ensures { AnswersBy (outcome (add_attribute owner name.now sort value.now) store.now (length out.old))
+        out.old result out.new }
 {
     if !store_check::passes(store) {
-        return store_writer::refused(1);
+        return Err(Refusal::BadStore);
     }
-    let number = attribute_refusals::add_attribute_refusal(store, owner, name, sort, value);
-    if number != 0 {
-        return store_writer::refused(number);
-    }
+    attribute_refusals::add_attribute_refusal(store, owner, name, sort, value)?;
     write_added(store, owner, name, sort, value, out)
 }

@@ -3,9 +3,10 @@
 
 ghost use Rattle.std.specs.Prelude.{length};
 ghost use Rattle.rules.specs.Change.{add_element};
-ghost use Rattle.rules.specs.Outcome.{outcome, Answers};
+ghost use Rattle.rules.specs.Outcome.{outcome};
+ghost use Rattle.rules.specs.Given.{AnswersBy};
 
-use store_writer::Answer;
+use rules::Refusal;
 
 /// 12: adds the filling of a definition as child number `child` of an element.
 pub fn add_element(
@@ -15,17 +16,14 @@ pub fn add_element(
     definition: u32,
     text: &[u8],
     out: &mut [u8],
-) -> Answer
-    ensures { Answers (outcome (add_element parent child definition text.now) store.now (length out.old))
-        out.old result.number result.length out.new }
+) -> Result<usize, Refusal>
+    ensures { AnswersBy (outcome (add_element parent child definition text.now) store.now (length out.old))
+        out.old result out.new }
 {
     if !store_check::passes(store) {
-        return store_writer::refused(1);
+        return Err(Refusal::BadStore);
     }
-    let number = document_refusals::add_element_refusal(store, parent, child, definition, text);
-    if number != 0 {
-        return store_writer::refused(number);
-    }
+    document_refusals::add_element_refusal(store, parent, child, definition, text)?;
     let plan = document_plans::adding_element(store, parent, child, definition);
     store_writer::edit(store, plan, text, out)
 }

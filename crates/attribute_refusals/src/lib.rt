@@ -2,6 +2,7 @@
 #![tactic(auto)]
 
 ghost use Rattle.std.specs.Prelude.{◌≡◌, true};
+ghost use Rattle.rules.specs.Given.{number_given};
 ghost use Rattle.rules.specs.Bytes.{any};
 ghost use Rattle.rules.specs.Decode.{read_attribute};
 ghost use Rattle.rules.specs.Passing.{passes};
@@ -10,6 +11,8 @@ ghost use Rattle.rules.specs.Refusal.{first, conditions, wrong_default};
 ghost use Rattle.lookup.specs.Bodies.{bodies_of};
 ghost use Rattle.store_laws.specs.Stores.{store_in};
 ghost use Rattle.attribute_refusals.specs.OwnAttributes.{own_named};
+
+use rules::Refusal;
 
 // Whether a record is that of an owner's attribute with a name.
 fn is_own(rec: &[u8], owner: u32, name: &[u8]) -> bool
@@ -26,12 +29,10 @@ fn has_attribute(store: &[u8], owner: u32, name: &[u8]) -> bool
     let w = layout::width_in(store);
     let attrs = layout::attributes_of(store);
     let count = layout::attribute_count(store);
-    let mut i = 0;
-    while i < count {
+    for i in 0..count {
         if is_own(layout::attribute_at(w, attrs, i), owner, name) {
             return true;
         }
-        i += 1;
     }
     false
 }
@@ -48,39 +49,45 @@ fn is_wrong_default(sort: u32, value: &[u8]) -> bool
 }
 
 /// Refusals 2, 3, 4, 5, 6 and 12 of the change that adds an attribute.
-pub fn add_attribute_refusal(store: &[u8], owner: u32, name: &[u8], sort: u32, value: &[u8]) -> u32
+pub fn add_attribute_refusal(
+    store: &[u8],
+    owner: u32,
+    name: &[u8],
+    sort: u32,
+    value: &[u8],
+) -> Result<(), Refusal>
     requires { passes store.now ≡ true }
-    ensures { result ≡ first (conditions (add_attribute owner name.now sort value.now) (store_in store.now)) }
+    ensures { number_given result ≡ first (conditions (add_attribute owner name.now sort value.now) (store_in store.now)) }
 {
     if !records::given_name(name) {
-        return 2;
+        return Err(Refusal::BadName);
     }
     let w = layout::width_in(store);
     if !records::is_value(w, value) {
-        return 3;
+        return Err(Refusal::BadValue);
     }
     if sort > 2 {
-        return 4;
+        return Err(Refusal::BadCode);
     }
     if has_attribute(store, owner, name) {
-        return 5;
+        return Err(Refusal::Taken);
     }
     if owner as usize >= layout::definition_count(store) {
-        return 6;
+        return Err(Refusal::Unknown);
     }
     if is_wrong_default(sort, value) {
-        return 12;
+        return Err(Refusal::Default);
     }
-    0
+    Ok(())
 }
 
 /// Refusal 6 of the change that destroys an attribute.
-pub fn destroy_attribute_refusal(store: &[u8], attribute: u32) -> u32
+pub fn destroy_attribute_refusal(store: &[u8], attribute: u32) -> Result<(), Refusal>
     requires { passes store.now ≡ true }
-    ensures { result ≡ first (conditions (destroy_attribute attribute) (store_in store.now)) }
+    ensures { number_given result ≡ first (conditions (destroy_attribute attribute) (store_in store.now)) }
 {
     if attribute as usize >= layout::attribute_count(store) {
-        return 6;
+        return Err(Refusal::Unknown);
     }
-    0
+    Ok(())
 }

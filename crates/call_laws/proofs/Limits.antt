@@ -33,10 +33,8 @@ module _ {w : ℕ} (room : ℕ) (f : FlatStore) (wide : value_width f.version �
 -- n: the first condition, 0; f: the bodies of the store that the call leaves; r: the first of the limits, or 0
 module _ (c : Call) (bs out : Bytes) (p : passes bs ≡ true) (n : ℕ) (e : n ≡ first (conditions c (store_in bs))) (z : n ≡ 0) (f : FlatStore) (g : flat (after c (store_in bs)) ≡ f) (w r : ℕ)
     (l : Limit w (length out) f r) where
-  pub answers_limit : (r ≡ 0 → ⊥) → {number len : ℕ} → (number ≡ r) × (len ≡ 0) → Answers (outcome c bs (length out)) out number len out
-  answers_limit h (number_is, length_is) =
-      let a : Answers (outcome c bs (length out)) out r 0 out = answers_written c bs (length out) p n e z f g (by r l.outcome h) in
-      record { number_is = number_is ∙ a.number_is; length_is = length_is ∙ a.length_is; buffer_is = a.buffer_is }
+  pub answers_limit : (r ≡ 0 → ⊥) → Answers (outcome c bs (length out)) out r 0 out
+  answers_limit h = answers_written c bs (length out) p n e z f g (by r l.outcome h)
     where
       by : (m : ℕ) → limited (length out) f ≡ unless_refused m (flat_bytes w f) → (m ≡ 0 → ⊥) → Answers (limited (length out) f) out m 0 out
       by zero q k = absurd (k refl)

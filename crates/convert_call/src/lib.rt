@@ -4,9 +4,10 @@
 
 ghost use Rattle.std.specs.Prelude.{length};
 ghost use Rattle.rules.specs.Change.{convert_to_group};
-ghost use Rattle.rules.specs.Outcome.{outcome, Answers};
+ghost use Rattle.rules.specs.Outcome.{outcome};
+ghost use Rattle.rules.specs.Given.{AnswersBy};
 
-use store_writer::Answer;
+use rules::Refusal;
 
 /// 6: converts `count` members from a place on into a group.
 pub fn convert_to_group(
@@ -16,12 +17,12 @@ pub fn convert_to_group(
     count: u32,
     sort: u32,
     out: &mut [u8],
-) -> Answer
-    ensures { Answers (outcome (convert_to_group owner place.now count sort) store.now (length out.old)) out.old
-        result.number result.length out.new }
+) -> Result<usize, Refusal>
+    ensures { AnswersBy (outcome (convert_to_group owner place.now count sort) store.now (length out.old)) out.old
+        result out.new }
 {
     if !store_check::passes(store) {
-        return store_writer::refused(1);
+        return Err(Refusal::BadStore);
     }
     let members = group_refusals::convert_to_group_refusal(store, owner, place, count, sort);
     let number = members.number;

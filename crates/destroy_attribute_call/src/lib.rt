@@ -4,18 +4,19 @@
 
 ghost use Rattle.std.specs.Prelude.{[], length};
 ghost use Rattle.rules.specs.Change.{destroy_attribute};
-ghost use Rattle.rules.specs.Outcome.{outcome, Answers};
+ghost use Rattle.rules.specs.Outcome.{outcome};
+ghost use Rattle.rules.specs.Given.{AnswersBy};
 ghost use Rattle.lookup.specs.Bodies.{bodies_of};
 ghost use Rattle.store_writer.specs.Writing.{limited};
 ghost use Rattle.attribute_writer.specs.Attributes.{Droppable};
 ghost use Rattle.destroy_attribute_call.specs.Dropped.{dropped};
 
-use store_writer::Answer;
+use rules::Refusal;
 
 // The store without an attribute and its rows.
-fn write_dropped(store: &[u8], attribute: usize, out: &mut [u8]) -> Answer
+fn write_dropped(store: &[u8], attribute: usize, out: &mut [u8]) -> Result<usize, Refusal>
     requires { Droppable store.now attribute }
-    ensures { Answers (limited (length out.old) (dropped attribute [] (bodies_of store.now))) out.old result.number result.length out.new }
+    ensures { AnswersBy (limited (length out.old) (dropped attribute [] (bodies_of store.now))) out.old result out.new }
 {
     let d = layout::definition_count(store);
     let p = layout::particle_count(store);
@@ -27,15 +28,12 @@ fn write_dropped(store: &[u8], attribute: usize, out: &mut [u8]) -> Answer
 }
 
 /// 10: destroys an attribute, with its rows.
-pub fn destroy_attribute(store: &[u8], attribute: u32, out: &mut [u8]) -> Answer
-    ensures { Answers (outcome (destroy_attribute attribute) store.now (length out.old)) out.old result.number result.length out.new }
+pub fn destroy_attribute(store: &[u8], attribute: u32, out: &mut [u8]) -> Result<usize, Refusal>
+    ensures { AnswersBy (outcome (destroy_attribute attribute) store.now (length out.old)) out.old result out.new }
 {
     if !store_check::passes(store) {
-        return store_writer::refused(1);
+        return Err(Refusal::BadStore);
     }
-    let number = attribute_refusals::destroy_attribute_refusal(store, attribute);
-    if number != 0 {
-        return store_writer::refused(number);
-    }
+    attribute_refusals::destroy_attribute_refusal(store, attribute)?;
     write_dropped(store, attribute as usize, out)
 }

@@ -4,21 +4,19 @@
 
 ghost use Rattle.std.specs.Prelude.{length};
 ghost use Rattle.rules.specs.Change.{destroy_attribute_row};
-ghost use Rattle.rules.specs.Outcome.{outcome, Answers};
+ghost use Rattle.rules.specs.Outcome.{outcome};
+ghost use Rattle.rules.specs.Given.{AnswersBy};
 
-use store_writer::Answer;
+use rules::Refusal;
 
 /// 15: destroys the row of an attribute of an element.
-pub fn destroy_attribute_row(store: &[u8], element: u32, attribute: u32, out: &mut [u8]) -> Answer
-    ensures { Answers (outcome (destroy_attribute_row element attribute) store.now (length out.old)) out.old result.number result.length out.new }
+pub fn destroy_attribute_row(store: &[u8], element: u32, attribute: u32, out: &mut [u8]) -> Result<usize, Refusal>
+    ensures { AnswersBy (outcome (destroy_attribute_row element attribute) store.now (length out.old)) out.old result out.new }
 {
     if !store_check::passes(store) {
-        return store_writer::refused(1);
+        return Err(Refusal::BadStore);
     }
-    let number = attribute_row_refusals::destroy_attribute_row_refusal(store, element, attribute);
-    if number != 0 {
-        return store_writer::refused(number);
-    }
+    attribute_row_refusals::destroy_attribute_row_refusal(store, element, attribute)?;
     let plan = document_plans::destroying_attribute_row(element, attribute);
     store_writer::edit(store, plan, &store[..0], out)
 }

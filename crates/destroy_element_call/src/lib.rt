@@ -3,21 +3,19 @@
 
 ghost use Rattle.std.specs.Prelude.{length};
 ghost use Rattle.rules.specs.Change.{destroy_element};
-ghost use Rattle.rules.specs.Outcome.{outcome, Answers};
+ghost use Rattle.rules.specs.Outcome.{outcome};
+ghost use Rattle.rules.specs.Given.{AnswersBy};
 
-use store_writer::Answer;
+use rules::Refusal;
 
 /// 13: destroys an element with all below it, or a whole document.
-pub fn destroy_element(store: &[u8], element: u32, out: &mut [u8]) -> Answer
-    ensures { Answers (outcome (destroy_element element) store.now (length out.old)) out.old result.number result.length out.new }
+pub fn destroy_element(store: &[u8], element: u32, out: &mut [u8]) -> Result<usize, Refusal>
+    ensures { AnswersBy (outcome (destroy_element element) store.now (length out.old)) out.old result out.new }
 {
     if !store_check::passes(store) {
-        return store_writer::refused(1);
+        return Err(Refusal::BadStore);
     }
-    let number = document_refusals::destroy_element_refusal(store, element);
-    if number != 0 {
-        return store_writer::refused(number);
-    }
+    document_refusals::destroy_element_refusal(store, element)?;
     let plan = document_plans::destroying_element(element);
     store_writer::edit(store, plan, &store[..0], out)
 }

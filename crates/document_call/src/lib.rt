@@ -3,21 +3,19 @@
 
 ghost use Rattle.std.specs.Prelude.{length};
 ghost use Rattle.rules.specs.Change.{add_document};
-ghost use Rattle.rules.specs.Outcome.{outcome, Answers};
+ghost use Rattle.rules.specs.Outcome.{outcome};
+ghost use Rattle.rules.specs.Given.{AnswersBy};
 
-use store_writer::Answer;
+use rules::Refusal;
 
 /// 11: a new last document, the filling of a definition.
-pub fn add_document(store: &[u8], definition: u32, text: &[u8], out: &mut [u8]) -> Answer
-    ensures { Answers (outcome (add_document definition text.now) store.now (length out.old)) out.old result.number result.length out.new }
+pub fn add_document(store: &[u8], definition: u32, text: &[u8], out: &mut [u8]) -> Result<usize, Refusal>
+    ensures { AnswersBy (outcome (add_document definition text.now) store.now (length out.old)) out.old result out.new }
 {
     if !store_check::passes(store) {
-        return store_writer::refused(1);
+        return Err(Refusal::BadStore);
     }
-    let number = document_refusals::add_document_refusal(store, definition, text);
-    if number != 0 {
-        return store_writer::refused(number);
-    }
+    document_refusals::add_document_refusal(store, definition, text)?;
     let plan = document_plans::adding_document(definition);
     store_writer::edit(store, plan, text, out)
 }

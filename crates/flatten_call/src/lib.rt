@@ -4,16 +4,17 @@
 
 ghost use Rattle.std.specs.Prelude.{length};
 ghost use Rattle.rules.specs.Change.{flatten_group};
-ghost use Rattle.rules.specs.Outcome.{outcome, Answers};
+ghost use Rattle.rules.specs.Outcome.{outcome};
+ghost use Rattle.rules.specs.Given.{AnswersBy};
 
-use store_writer::Answer;
+use rules::Refusal;
 
 /// 7: flattens a group into its list.
-pub fn flatten_group(store: &[u8], owner: u32, place: &[u32], out: &mut [u8]) -> Answer
-    ensures { Answers (outcome (flatten_group owner place.now) store.now (length out.old)) out.old result.number result.length out.new }
+pub fn flatten_group(store: &[u8], owner: u32, place: &[u32], out: &mut [u8]) -> Result<usize, Refusal>
+    ensures { AnswersBy (outcome (flatten_group owner place.now) store.now (length out.old)) out.old result out.new }
 {
     if !store_check::passes(store) {
-        return store_writer::refused(1);
+        return Err(Refusal::BadStore);
     }
     let group = group_refusals::flatten_group_refusal(store, owner, place);
     let number = group.number;

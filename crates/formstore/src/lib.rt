@@ -36,14 +36,14 @@ pub fn look_up<'a>(store: &'a [u8], serial: u32, number: &mut u32) -> &'a [u8]
 pub fn print(store: &[u8], out: &mut [u8]) -> Answer
     ensures { Answers (print_outcome store.now (length out.old)) out.old result.number result.length out.new }
 {
-    print_call::print(store, out)
+    Answer::from(print_call::print(store, out))
 }
 
 /// Reads a printed text into a store: that of all stores that print it which has its serials from 1 on.
 pub fn read_text(text: &[u8], out: &mut [u8]) -> Answer
     ensures { ReadPromise base_version text.now out.old result.number result.length out.new }
 {
-    read_call::read_text(text, out)
+    Answer::from(read_call::read_text(text, out))
 }
 
 // ---- the changes, by their numbers
@@ -52,14 +52,14 @@ pub fn read_text(text: &[u8], out: &mut [u8]) -> Answer
 pub fn create_definition(store: &[u8], name: &[u8], kind: u32, out: &mut [u8]) -> Answer
     ensures { Promise (create_definition name.now kind) store.now out.old result.number result.length out.new }
 {
-    create_definition_call::create_definition(store, name, kind, out)
+    Answer::from(create_definition_call::create_definition(store, name, kind, out))
 }
 
 /// 2: destroys a definition, with its model and attributes.
 pub fn destroy_definition(store: &[u8], definition: u32, out: &mut [u8]) -> Answer
     ensures { Promise (destroy_definition definition) store.now out.old result.number result.length out.new }
 {
-    destroy_definition_call::destroy_definition(store, definition, out)
+    Answer::from(destroy_definition_call::destroy_definition(store, definition, out))
 }
 
 /// 3: inserts an element into a model; on the spine each instance gets a filling if the quantifier needs one.
@@ -74,14 +74,14 @@ pub fn insert_element(
 ) -> Answer
     ensures { Promise (insert_element owner place.now definition quantifier text.now) store.now out.old result.number result.length out.new }
 {
-    insert_call::insert_element(store, owner, place, definition, quantifier, text, out)
+    Answer::from(insert_call::insert_element(store, owner, place, definition, quantifier, text, out))
 }
 
 /// 4: removes an element from a model, with the children of instances that it stands for.
 pub fn remove_element(store: &[u8], owner: u32, place: &[u32], out: &mut [u8]) -> Answer
     ensures { Promise (remove_element owner place.now) store.now out.old result.number result.length out.new }
 {
-    remove_call::remove_element(store, owner, place, out)
+    Answer::from(remove_call::remove_element(store, owner, place, out))
 }
 
 /// 5: changes an element's quantifier.
@@ -95,7 +95,7 @@ pub fn change_quantifier(
 ) -> Answer
     ensures { Promise (change_quantifier owner place.now quantifier text.now) store.now out.old result.number result.length out.new }
 {
-    quantifier_calls::requantify(store, owner, place, quantifier, text, false, out)
+    Answer::from(quantifier_calls::requantify(store, owner, place, quantifier, text, false, out))
 }
 
 /// 6: converts `count` members from a place on into a group.
@@ -109,14 +109,14 @@ pub fn convert_to_group(
 ) -> Answer
     ensures { Promise (convert_to_group owner place.now count sort) store.now out.old result.number result.length out.new }
 {
-    convert_call::convert_to_group(store, owner, place, count, sort, out)
+    Answer::from(convert_call::convert_to_group(store, owner, place, count, sort, out))
 }
 
 /// 7: flattens a group into its list.
 pub fn flatten_group(store: &[u8], owner: u32, place: &[u32], out: &mut [u8]) -> Answer
     ensures { Promise (flatten_group owner place.now) store.now out.old result.number result.length out.new }
 {
-    flatten_call::flatten_group(store, owner, place, out)
+    Answer::from(flatten_call::flatten_group(store, owner, place, out))
 }
 
 /// 8: changes a group's quantifier.
@@ -130,7 +130,7 @@ pub fn change_group_quantifier(
 ) -> Answer
     ensures { Promise (change_group_quantifier owner place.now quantifier text.now) store.now out.old result.number result.length out.new }
 {
-    quantifier_calls::requantify(store, owner, place, quantifier, text, true, out)
+    Answer::from(quantifier_calls::requantify(store, owner, place, quantifier, text, true, out))
 }
 
 /// 9: adds an attribute; a REQUIRED one adds a row to each instance.
@@ -144,21 +144,21 @@ pub fn add_attribute(
 ) -> Answer
     ensures { Promise (add_attribute owner name.now sort value.now) store.now out.old result.number result.length out.new }
 {
-    add_attribute_call::add_attribute(store, owner, name, sort, value, out)
+    Answer::from(add_attribute_call::add_attribute(store, owner, name, sort, value, out))
 }
 
 /// 10: destroys an attribute, with its rows.
 pub fn destroy_attribute(store: &[u8], attribute: u32, out: &mut [u8]) -> Answer
     ensures { Promise (destroy_attribute attribute) store.now out.old result.number result.length out.new }
 {
-    destroy_attribute_call::destroy_attribute(store, attribute, out)
+    Answer::from(destroy_attribute_call::destroy_attribute(store, attribute, out))
 }
 
 /// 11: a new last document, the filling of a definition.
 pub fn add_document(store: &[u8], definition: u32, text: &[u8], out: &mut [u8]) -> Answer
     ensures { Promise (add_document definition text.now) store.now out.old result.number result.length out.new }
 {
-    document_call::add_document(store, definition, text, out)
+    Answer::from(document_call::add_document(store, definition, text, out))
 }
 
 /// 12: adds the filling of a definition as child number `child` of an element.
@@ -172,14 +172,14 @@ pub fn add_element(
 ) -> Answer
     ensures { Promise (add_element parent child definition text.now) store.now out.old result.number result.length out.new }
 {
-    add_element_call::add_element(store, parent, child, definition, text, out)
+    Answer::from(add_element_call::add_element(store, parent, child, definition, text, out))
 }
 
 /// 13: destroys an element with all below it, or a whole document.
 pub fn destroy_element(store: &[u8], element: u32, out: &mut [u8]) -> Answer
     ensures { Promise (destroy_element element) store.now out.old result.number result.length out.new }
 {
-    destroy_element_call::destroy_element(store, element, out)
+    Answer::from(destroy_element_call::destroy_element(store, element, out))
 }
 
 /// 14: sets an attribute of an element; a row that is there keeps its serial.
@@ -192,19 +192,19 @@ pub fn set_attribute(
 ) -> Answer
     ensures { Promise (set_attribute element attribute value.now) store.now out.old result.number result.length out.new }
 {
-    set_attribute_call::set_attribute(store, element, attribute, value, out)
+    Answer::from(set_attribute_call::set_attribute(store, element, attribute, value, out))
 }
 
 /// 15: destroys the row of an attribute of an element.
 pub fn destroy_attribute_row(store: &[u8], element: u32, attribute: u32, out: &mut [u8]) -> Answer
     ensures { Promise (destroy_attribute_row element attribute) store.now out.old result.number result.length out.new }
 {
-    destroy_attribute_row_call::destroy_attribute_row(store, element, attribute, out)
+    Answer::from(destroy_attribute_row_call::destroy_attribute_row(store, element, attribute, out))
 }
 
 /// 16: sets the text of a PCDATA element.
 pub fn set_text(store: &[u8], element: u32, text: &[u8], out: &mut [u8]) -> Answer
     ensures { Promise (set_text element text.now) store.now out.old result.number result.length out.new }
 {
-    text_call::set_text(store, element, text, out)
+    Answer::from(text_call::set_text(store, element, text, out))
 }

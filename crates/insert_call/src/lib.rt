@@ -4,10 +4,11 @@
 
 ghost use Rattle.std.specs.Prelude.{length};
 ghost use Rattle.rules.specs.Change.{insert_element};
-ghost use Rattle.rules.specs.Outcome.{outcome, Answers};
+ghost use Rattle.rules.specs.Outcome.{outcome};
+ghost use Rattle.rules.specs.Given.{AnswersBy};
 
 use model_writer::Edit;
-use store_writer::Answer;
+use rules::Refusal;
 
 /// 3: inserts an element into a model; on the spine each instance gets a filling if the quantifier needs one.
 pub fn insert_element(
@@ -18,13 +19,13 @@ pub fn insert_element(
     quantifier: u32,
     text: &[u8],
     out: &mut [u8],
-) -> Answer
-    ensures { Answers
+) -> Result<usize, Refusal>
+    ensures { AnswersBy
         (outcome (insert_element owner place.now definition quantifier text.now) store.now (length out.old))
-        out.old result.number result.length out.new }
+        out.old result out.new }
 {
     if !store_check::passes(store) {
-        return store_writer::refused(1);
+        return Err(Refusal::BadStore);
     }
     let gap = insert_refusals::insert_element_refusal(
         store, owner, place, definition, quantifier, text,

@@ -3,7 +3,7 @@
 
 ghost use Rattle.std.specs.Prelude.{◌≡◌, true, length};
 ghost use Rattle.rules.specs.WellFormed.{is_value, within_ceilings};
-ghost use Rattle.rules.specs.Outcome.{Answers};
+ghost use Rattle.rules.specs.Given.{AnswersBy};
 ghost use Rattle.layout.specs.Bodies.{width_of};
 ghost use Rattle.lookup.specs.Bodies.{bodies_of};
 ghost use Rattle.model_writer.specs.Writing.{edit_of};
@@ -16,7 +16,7 @@ ghost use Rattle.model_form.specs.Editing.{form_edited, Edits};
 use model::place::Holder;
 use model_writer::Edit;
 use row_walk::Plan;
-use store_writer::Answer;
+use rules::Refusal;
 
 // Whether the form after an edit keeps within the ceilings, where it has p particles.
 fn keeps_within(store: &[u8], owner: usize, edit: Edit, holder: Holder, at: usize, p: usize) -> bool
@@ -39,16 +39,16 @@ pub fn edit_model(
     plan: Plan,
     text: &[u8],
     out: &mut [u8],
-) -> Answer
+) -> Result<usize, Refusal>
     requires { Edits store.now owner (edit_of edit) holder at × (is_value (width_of store.now) text.now ≡ true) × Sized plan }
-    ensures { Answers
+    ensures { AnswersBy
         (limited (length out.old)
         (planned_in (form_edited store.now owner (edit_of edit) holder at) plan text.now (bodies_of store.now)))
-        out.old result.number result.length out.new }
+        out.old result out.new }
 {
     let p = model_form::all_after(store, owner, edit);
     if !keeps_within(store, owner, edit, holder, at, p) {
-        return store_writer::refused(16);
+        return Err(Refusal::Ceiling);
     }
     let d = layout::definition_count(store);
     let a = layout::attribute_count(store);

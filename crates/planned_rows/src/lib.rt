@@ -3,6 +3,7 @@
 #![tactic(auto)]
 
 ghost use Rattle.std.specs.Prelude.{◌≡◌, true, ◌+◌, ◌<◌, ◌≤◌, length};
+ghost use Rattle.rules.specs.Given.{number_given};
 ghost use Rattle.rules.specs.Decode.{number_at, row_count};
 ghost use Rattle.rules.specs.Passing.{passes};
 ghost use Rattle.rules.specs.WellFormed.{is_value};
@@ -20,6 +21,7 @@ use filling::Filling;
 use row_bound::Most;
 use row_walk::Plan;
 use row_writer::Cursor;
+use rules::Refusal;
 use store_limits::ROWS_PAST_CEILING;
 
 /// The walk over the rows of a store, which writes from `at` on.
@@ -106,7 +108,7 @@ fn one_row_each(plan: Plan) -> Plan
     }
 }
 
-// The refusal, or 0, of the store after a plan whose filling has `one` rows, as they are counted. The places are
+// The refusal of the store after a plan whose filling has `one` rows, as they are counted. The places are
 // counted by a walk into a buffer of one byte, so that no filling is gone through for it.
 fn filled_refusal(
     store: &[u8],
@@ -115,10 +117,10 @@ fn filled_refusal(
     text: &[u8],
     one: usize,
     room: usize,
-) -> u32
+) -> Result<(), Refusal>
     requires { (passes store.now ≡ true) × (is_value (width_of store.now) text.now ≡ true) × Sized plan × (form ≤ most_form) × (1 ≤ one)
         × (one ≡ counted_to (fill_of plan text.now (bodies_of store.now) 0)) }
-    ensures { result
+    ensures { number_given result
         ≡ limit_of (width_of store.now) form (length (rows_after plan text.now (bodies_of store.now)))
         (number_at next_at 4 store.now + new_in (rows_after plan text.now (bodies_of store.now))) room }
 {
@@ -128,7 +130,7 @@ fn filled_refusal(
     let each = one_row_each(plan);
     let counted = walk_rows(store, each, text, 0, &mut clipped);
     if counted.left == 0 {
-        return 16;
+        return Err(Refusal::Ceiling);
     }
     let places = counted.serial - next;
     let new = one * places;
@@ -141,11 +143,17 @@ fn filled_refusal(
     )
 }
 
-/// The refusal, or 0, of the store after a plan, with a form of so many bytes. Only where the most that the plan adds
+/// The refusal of the store after a plan, with a form of so many bytes. Only where the most that the plan adds
 /// is too much are the rows counted, by a walk into a buffer of one byte.
-pub fn refusal(store: &[u8], form: usize, plan: Plan, text: &[u8], room: usize) -> u32
+pub fn refusal(
+    store: &[u8],
+    form: usize,
+    plan: Plan,
+    text: &[u8],
+    room: usize,
+) -> Result<(), Refusal>
     requires { (passes store.now ≡ true) × (is_value (width_of store.now) text.now ≡ true) × Sized plan × (form ≤ most_form) }
-    ensures { result
+    ensures { number_given result
         ≡ limit_of (width_of store.now) form (length (rows_after plan text.now (bodies_of store.now)))
         (number_at next_at 4 store.now + new_in (rows_after plan text.now (bodies_of store.now))) room }
 {
@@ -154,8 +162,8 @@ pub fn refusal(store: &[u8], form: usize, plan: Plan, text: &[u8], room: usize) 
     let more = most.all;
     let count = layout::row_count(store);
     let next = layout::next_serial(store);
-    if store_limits::limit(w, form, count + more, next + more, room) == 0 {
-        return 0;
+    if store_limits::limit(w, form, count + more, next + more, room).is_ok() {
+        return Ok(());
     }
     if 0 < most.one {
         return filled_refusal(store, form, plan, text, most.one, room);

@@ -3,11 +3,12 @@
 #![tactic(auto)]
 
 ghost use Rattle.std.specs.Prelude.{length};
-ghost use Rattle.rules.specs.Outcome.{outcome, Answers};
+ghost use Rattle.rules.specs.Outcome.{outcome};
+ghost use Rattle.rules.specs.Given.{AnswersBy};
 ghost use Rattle.quantifier_refusals.specs.Requantifying.{requantify};
 
 use model_writer::Edit;
-use store_writer::Answer;
+use rules::Refusal;
 
 /// 5 and 8: changes the quantifier of an element, or of a group.
 pub fn requantify(
@@ -18,13 +19,13 @@ pub fn requantify(
     text: &[u8],
     group: bool,
     out: &mut [u8],
-) -> Answer
-    ensures { Answers
+) -> Result<usize, Refusal>
+    ensures { AnswersBy
         (outcome (requantify group owner place.now quantifier text.now) store.now (length out.old))
-        out.old result.number result.length out.new }
+        out.old result out.new }
 {
     if !store_check::passes(store) {
-        return store_writer::refused(1);
+        return Err(Refusal::BadStore);
     }
     let found = quantifier_refusals::requantify_refusal(
         store, owner, place, quantifier, text, group,

@@ -4,17 +4,18 @@
 
 ghost use Rattle.std.specs.Prelude.{length};
 ghost use Rattle.rules.specs.Change.{remove_element};
-ghost use Rattle.rules.specs.Outcome.{outcome, Answers};
+ghost use Rattle.rules.specs.Outcome.{outcome};
+ghost use Rattle.rules.specs.Given.{AnswersBy};
 
 use model_writer::Edit;
-use store_writer::Answer;
+use rules::Refusal;
 
 /// 4: removes an element, with the children of instances that it stands for.
-pub fn remove_element(store: &[u8], owner: u32, place: &[u32], out: &mut [u8]) -> Answer
-    ensures { Answers (outcome (remove_element owner place.now) store.now (length out.old)) out.old result.number result.length out.new }
+pub fn remove_element(store: &[u8], owner: u32, place: &[u32], out: &mut [u8]) -> Result<usize, Refusal>
+    ensures { AnswersBy (outcome (remove_element owner place.now) store.now (length out.old)) out.old result out.new }
 {
     if !store_check::passes(store) {
-        return store_writer::refused(1);
+        return Err(Refusal::BadStore);
     }
     let element = remove_refusals::remove_element_refusal(store, owner, place);
     let number = element.number;

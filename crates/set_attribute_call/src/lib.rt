@@ -4,9 +4,10 @@
 
 ghost use Rattle.std.specs.Prelude.{length};
 ghost use Rattle.rules.specs.Change.{set_attribute};
-ghost use Rattle.rules.specs.Outcome.{outcome, Answers};
+ghost use Rattle.rules.specs.Outcome.{outcome};
+ghost use Rattle.rules.specs.Given.{AnswersBy};
 
-use store_writer::Answer;
+use rules::Refusal;
 
 /// 14: sets an attribute of an element; a row that is there keeps its serial.
 pub fn set_attribute(
@@ -15,17 +16,14 @@ pub fn set_attribute(
     attribute: u32,
     value: &[u8],
     out: &mut [u8],
-) -> Answer
-    ensures { Answers (outcome (set_attribute element attribute value.now) store.now (length out.old)) out.old
-        result.number result.length out.new }
+) -> Result<usize, Refusal>
+    ensures { AnswersBy (outcome (set_attribute element attribute value.now) store.now (length out.old)) out.old
+        result out.new }
 {
     if !store_check::passes(store) {
-        return store_writer::refused(1);
+        return Err(Refusal::BadStore);
     }
-    let number = attribute_row_refusals::set_attribute_refusal(store, element, attribute, value);
-    if number != 0 {
-        return store_writer::refused(number);
-    }
+    attribute_row_refusals::set_attribute_refusal(store, element, attribute, value)?;
     let plan = document_plans::setting_attribute(store, element, attribute);
     store_writer::edit(store, plan, value, out)
 }

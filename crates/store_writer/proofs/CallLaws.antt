@@ -3,13 +3,18 @@ use Prim.Native.Nat.{ℕ, zero, suc}
 use mathlib.Core.Path.{◌≡◌, refl, sym, ◌∙◌, subst}
 use mathlib.Core.Bool.{Bool, true, false, not, false≢true}
 use borrow.Author.Tests.{not-false}
+use Rattle.std.specs.Prelude.{Err}
 use Rattle.rules.specs.Bytes.{Bytes}
 use Rattle.rules.specs.Layout.{FlatStore, flat}
 use Rattle.rules.specs.Passing.{passes}
 use Rattle.rules.specs.Change.{Call, after}
 use Rattle.rules.specs.Refusal.{first, conditions}
 use Rattle.rules.specs.Outcome.{Outcome, outcome, Answers}
+use Rattle.rules.specs.declared.Refusal.{Refusal}
+use Rattle.rules.specs.declared.Refusal.TheVariants.{BadStore}
+use Rattle.rules.specs.Given.{refusal_number, AnswersBy}
 use Rattle.store_laws.specs.Stores.{store_in}
+use Rattle.store_limits.proofs.GivenLaws.{refusal_some}
 use Rattle.store_writer.specs.Writing.{limited}
 use Rattle.store_laws.proofs.StoreLaws.{holds}
 use Rattle.store_writer.proofs.OutcomeLaws.{outcome_bad, outcome_refused, outcome_limited}
@@ -32,7 +37,7 @@ module _ (c : Call) (bs : Bytes) (room : ℕ) {out : Bytes} where
       → {number len : ℕ} {left : Bytes} → Answers (limited room f) out number len left → Answers (outcome c bs room) out number len left
   answers_written h n e z f g a = answers_equal (outcome_limited c bs room (holds bs h) (sym e ∙ z) f g) a
 
--- ---- in the words of the code: b is what the check gave, m the number of the first condition
+-- ---- in the words of the code: b is what the check gave, r the first condition
 pub passed : {b : Bool} (bs : Bytes) → not b ≡ false → b ≡ passes bs → passes bs ≡ true
 passed {b = b} bs h e = sym e ∙ not-false b h
 
@@ -41,12 +46,9 @@ failed {b = true} bs h e = absurd (false≢true h)
 failed {b = false} bs h e = sym e
 
 module _ (c : Call) (bs : Bytes) (room : ℕ) (out : Bytes) where
-  pub bad : {b : Bool} {n l : ℕ} → not b ≡ true → b ≡ passes bs → (n ≡ 1) × (l ≡ 0) → Answers (outcome c bs room) out n l out
-  bad h e (n_is, l-is) =
-      let a : Answers (outcome c bs room) out 1 0 out = answers_bad c bs room (failed bs h e) in
-      record { number_is = n_is ∙ a.number_is; length_is = l-is ∙ a.length_is; buffer_is = a.buffer_is }
+  pub bad : {b : Bool} → not b ≡ true → b ≡ passes bs → AnswersBy (outcome c bs room) out (Err BadStore) out
+  bad h e = answers_bad c bs room (failed bs h e)
 
-  pub turned_away : {b : Bool} {m n l : ℕ} → not b ≡ false → b ≡ passes bs → m ≡ first (conditions c (store_in bs)) → (m ≡ 0 → ⊥) → (n ≡ m) × (l ≡ 0) → Answers (outcome c bs room) out n l out
-  turned_away {m = m} h e f z (n_is, l-is) =
-      let a : Answers (outcome c bs room) out m 0 out = answers_condition c bs room (passed bs h e) m f z in
-      record { number_is = n_is ∙ a.number_is; length_is = l-is ∙ a.length_is; buffer_is = a.buffer_is }
+  pub turned_away : {b : Bool} → not b ≡ false → b ≡ passes bs → (r : Refusal) → refusal_number r ≡ first (conditions c (store_in bs))
+      → AnswersBy (outcome c bs room) out (Err r) out
+  turned_away h e r f = answers_condition c bs room (passed bs h e) (refusal_number r) f (refusal_some r)

@@ -53,7 +53,3 @@ module _ (room : ℕ) (f : FlatStore) where
       → number ≡ first (16 if a ∷ 17 if b ∷ 18 if c ∷ []) → limited room f ≡ unless_refused number written
   unfolding limited
   limited_as {number} x y z e = (λ i. unless_refused (first (16 if x i ∷ 17 if y i ∷ 18 if z i ∷ [])) written) ∙ ap (λ (n : ℕ). unless_refused n written) (sym e)
-
--- in the code's numbers
-pub answers_as : {o : Outcome} {out : Bytes} {n n' l l' : ℕ} {left : Bytes} → n ≡ n' → l ≡ l' → Answers o out n' l' left → Answers o out n l left
-answers_as e q a = record { number_is = e ∙ a.number_is; length_is = q ∙ a.length_is; buffer_is = a.buffer_is }

@@ -6,7 +6,7 @@ ghost use Rattle.rules.specs.Layout.{flat_bytes};
 ghost use Rattle.rules.specs.Decode.{number_at};
 ghost use Rattle.rules.specs.Passing.{passes};
 ghost use Rattle.rules.specs.WellFormed.{is_value};
-ghost use Rattle.rules.specs.Outcome.{Answers};
+ghost use Rattle.rules.specs.Given.{number_given, length_given, AnswersBy};
 ghost use Rattle.codec.specs.Laid.{Laid};
 ghost use Rattle.layout.specs.Bodies.{Width, width_of};
 ghost use Rattle.layout.specs.Header.{headed};
@@ -20,8 +20,9 @@ ghost use Rattle.store_limits.specs.Limits.{limit_of};
 ghost use Rattle.layout.specs.Fields.{next_at};
 
 use row_walk::Plan;
+use rules::Refusal;
 
-/// 0 and the length of what was written, or the number of a refusal and 0.
+/// 0 and the length of what was written, or the number of a refusal and 0: what the public calls answer, to C too.
 #[repr(C)]
 #[derive(Clone, Copy)]
 pub struct Answer {
@@ -29,11 +30,18 @@ pub struct Answer {
     pub length: usize,
 }
 
-/// Nothing is written.
-pub fn refused(number: u32) -> Answer
-    ensures { (result.number ≡ number) × (result.length ≡ 0) }
-{
-    Answer { number, length: 0 }
+impl From<Result<usize, Refusal>> for Answer {
+    ghost from_gives = { λ given answer. (answer.number ≡ number_given given) × (answer.length ≡ length_given given) };
+
+    fn from(given: Result<usize, Refusal>) -> Answer {
+        match given {
+            Ok(length) => Answer { number: 0, length },
+            Err(refusal) => Answer {
+                number: u32::from(refusal),
+                length: 0,
+            },
+        }
+    }
 }
 
 /// The store after a plan and with another form: `form` holds the bytes of its d definitions, p particles and a
@@ -47,25 +55,21 @@ pub fn edit_form(
     plan: Plan,
     text: &[u8],
     out: &mut [u8],
-) -> Answer
+) -> Result<usize, Refusal>
     requires { (passes store.now ≡ true) × (is_value (width_of store.now) text.now ≡ true) × Sized plan × Forms (width_of store.now) form.now d p a }
-    ensures { Answers
+    ensures { AnswersBy
         (limited (length out.old)
         (planned_in (form_read (width_of store.now) form.now d p a) plan text.now (bodies_of store.now)))
-        out.old result.number result.length out.new }
+        out.old result out.new }
 {
-    let number = planned_rows::refusal(store, form.len(), plan, text, out.len());
-    if number != 0 {
-        return refused(number);
-    }
-    let length = plan_writer::put_edited(store, form, d, p, a, plan, text, out);
-    Answer { number: 0, length }
+    planned_rows::refusal(store, form.len(), plan, text, out.len())?;
+    Ok(plan_writer::put_edited(store, form, d, p, a, plan, text, out))
 }
 
 /// The store after a plan that leaves its form as it is.
-pub fn edit(store: &[u8], plan: Plan, text: &[u8], out: &mut [u8]) -> Answer
+pub fn edit(store: &[u8], plan: Plan, text: &[u8], out: &mut [u8]) -> Result<usize, Refusal>
     requires { (passes store.now ≡ true) × (is_value (width_of store.now) text.now ≡ true) × Sized plan }
-    ensures { Answers (limited (length out.old) (planned plan text.now (bodies_of store.now))) out.old result.number result.length out.new }
+    ensures { AnswersBy (limited (length out.old) (planned plan text.now (bodies_of store.now))) out.old result out.new }
 {
     let d = layout::definition_count(store);
     let p = layout::particle_count(store);

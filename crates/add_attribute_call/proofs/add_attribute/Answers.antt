@@ -1,7 +1,7 @@
 -- `add_attribute_call::add_attribute` meets its contract: a store that does not pass is refused with 1 (`bad` of
 -- CallLaws), a condition that holds gives its number (`turned_away`); else `write_added` may be called (`addable` of
 -- Laws), and its answer is the outcome (`made` of Calls), as `added` is what the change leaves (`add_leaves`).
-use mathlib.Core.Path.{ap}
+use mathlib.Core.Path.{refl, ap}
 use mathlib.Core.Bool.{not}
 use lib.ListN.{length}
 use Rattle.rules.specs.Change.{add_attribute}
@@ -10,34 +10,36 @@ use Rattle.store_writer.proofs.CallLaws.{passed, bad, turned_away}
 use Rattle.add_attribute_call.specs.Added.{added}
 use Rattle.call_laws.proofs.Calls.{made}
 use Rattle.add_attribute_call.proofs.Laws.{addable, add_leaves}
-use borrow.Author.Rules.{rules}
+use Rattle.std.proofs.lemmas.Result.{err_from_is_err_and}
 use Rattle.add_attribute_call.proofs.add_attribute.Goals as goal
 
 pub returns-then-not-passes : goal.returns-then-not-passes
 returns-then-not-passes c =
     bad (add_attribute c.args.owner c.args.name.now c.args.sort c.args.value.now) c.args.store.now
-    (length c.args.out.now) c.args.out.now (ap not c.if-not-passes.true) c.passes.ensures c.refused.ensures
+    (length c.args.out.now) c.args.out.now (ap not c.if-not-passes.true) c.passes.ensures
 
-pub add_attribute_refusal-number-requires : goal.add_attribute_refusal-number-requires
-add_attribute_refusal-number-requires c =
+pub add_attribute_refusal-requires : goal.add_attribute_refusal-requires
+add_attribute_refusal-requires c =
     passed c.args.store.now (ap not c.if-not-passes.false) c.passes.ensures
 
-pub returns-then-number-ne0 : goal.returns-then-number-ne0
-returns-then-number-ne0 c =
-    turned_away (add_attribute c.args.owner c.args.name.now c.args.sort c.args.value.now) c.args.store.now
+pub returns-in_err-add_attribute_refusal : goal.returns-in_err-add_attribute_refusal
+returns-in_err-add_attribute_refusal c =
+    let passed_on = err_from_is_err_and c.from_residual.result c.from_residual.ensures.1 in
+    rw (passed_on.1, passed_on.2)
+    (turned_away (add_attribute c.args.owner c.args.name.now c.args.sort c.args.value.now) c.args.store.now
     (length c.args.out.now) c.args.out.now (ap not c.if-not-passes.false) c.passes.ensures
-    c.add_attribute_refusal-number.ensures c.if-number-ne0.true c.refused-then-number-ne0.ensures
+    c.in_err-add_attribute_refusal.field-0.0 c.in_err-add_attribute_refusal.ensures)
 
 pub write_added-requires : goal.write_added-requires
 write_added-requires c =
     addable c.args.store.now (ap not c.if-not-passes.false) c.passes.ensures c.args.owner c.args.name.now c.args.sort
-    c.args.value.now c.add_attribute_refusal-number.ensures c.if-number-ne0.false
+    c.args.value.now c.in_ok-add_attribute_refusal.ensures refl
 
 pub returns : goal.returns
 returns c =
     made (add_attribute c.args.owner c.args.name.now c.args.sort c.args.value.now) c.args.store.now
     (length c.args.out.now) c.args.out.now
     (added c.args.owner c.args.name.now c.args.sort c.args.value.now (bodies_of c.args.store.now))
-    (ap not c.if-not-passes.false) c.passes.ensures c.add_attribute_refusal-number.ensures c.if-number-ne0.false
+    (ap not c.if-not-passes.false) c.passes.ensures c.in_ok-add_attribute_refusal.ensures refl
     (λ p z. add_leaves c.args.store.now p c.args.owner c.args.name.now c.args.sort c.args.value.now z)
     c.write_added.ensures

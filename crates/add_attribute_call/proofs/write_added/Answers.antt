@@ -15,7 +15,7 @@ pub returns-then-attributes_full : goal.returns-then-attributes_full
 returns-then-attributes_full c =
     added_full c.args.store.now c.args.owner c.args.name.now c.args.sort c.args.value.now c.requires (length c.args.out.now)
     c.attribute_count-a.ensures
-    (leb-true 64 c.attribute_count-a.result (sym c.attributes_full.ensures ∙ c.if-attributes_full.true)) c.refused.ensures
+    (leb-true 64 c.attribute_count-a.result (sym c.attributes_full.ensures ∙ c.if-attributes_full.true))
 
 pub adding_plan-plan-requires : goal.adding_plan-plan-requires
 adding_plan-plan-requires c =

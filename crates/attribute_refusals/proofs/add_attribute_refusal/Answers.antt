@@ -6,7 +6,6 @@ use mathlib.Core.Bool.{not}
 use native.Mathlib.Omega.{arith}
 use Rattle.store_check.proofs.StoreFacts.{whole, bad_text_lem, fine_text, past_definitions, within_definitions}
 use Rattle.attribute_refusals.proofs.AttributeLaws.{add_2, add_3, add_4, add_5, add_6, add_12, add_0}
-use borrow.Author.Rules.{rules}
 use Rattle.rules.proofs.Words.{test_is, not_is}
 use Rattle.attribute_refusals.proofs.add_attribute_refusal.Goals as goal
 

@@ -3,7 +3,6 @@
 use native.Mathlib.Omega.{arith}
 use Rattle.store_check.proofs.StoreFacts.{whole}
 use Rattle.attribute_refusals.proofs.AttributeLaws.{destroy_6, destroy_0}
-use borrow.Author.Rules.{rules}
 use Rattle.attribute_refusals.proofs.destroy_attribute_refusal.Goals as goal
 
 pub returns-then-attribute-attribute_count : goal.returns-then-attribute-attribute_count

@@ -1,14 +1,12 @@
 -- `attribute_refusals::has_attribute` meets its contract: by the search of Searching in `lookup`: an attribute of the
 -- owner with the name ends it with true (`searching_hit`), any other is passed (`searching_on`), and past the last it
 -- is false (`searching_end`). What is read is the store's (`own_at`, `attributes_any` of AttributeLaws).
-use Rattle.lookup.proofs.Searching.{Searching, searching_start, searching_hit, searching_on, searching_end}
+use Rattle.lookup.proofs.Searching.{searching_start, searching_hit, searching_on, searching_end}
 use Rattle.attribute_refusals.proofs.AttributeLaws.{attributes_any, own_at}
 use Rattle.attribute_refusals.specs.OwnAttributes.{own_named}
 use Rattle.rules.specs.Layout.{attribute_size}
 use Rattle.rules.specs.Decode.{read_attribute}
-use Prim.Native.Nat.{◌-◌, ◌<◌}
 use native.Mathlib.Omega.{arith}
-use borrow.Author.Rules.{rules}
 use Rattle.attribute_refusals.proofs.has_attribute.Goals as goal
 
 pub loop-i-init : goal.loop-i-init

@@ -1,7 +1,6 @@
 -- `attribute_refusals::is_own` meets its contract: the owner and the name read from the record are those that
 -- `own_named` tests (`own_read` of AttributeLaws).
 use Rattle.attribute_refusals.proofs.AttributeLaws.{own_read}
-use borrow.Author.Rules.{rules}
 use Rattle.attribute_refusals.proofs.is_own.Goals as goal
 
 pub returns : goal.returns

@@ -9,51 +9,55 @@ use Rattle.call_laws.proofs.Limits.{answers_limit, answers_all}
 use Rattle.definition_creation.specs.Bodies.{created}
 use Rattle.lookup.specs.Bodies.{bodies_of}
 use Rattle.rules.specs.Change.{create_definition}
-use mathlib.Core.Path.{sym, ◌∙◌, ap}
+use mathlib.Core.Path.{refl, sym, ◌∙◌, ap}
 use lib.ListN.{length}
-use borrow.Author.Rules.{rules}
+use Rattle.std.proofs.lemmas.Result.{err_from_is_err_and}
 use Rattle.create_definition_call.proofs.create_definition.Goals as goal
 
 pub returns-then-not-passes : goal.returns-then-not-passes
 returns-then-not-passes c =
     bad (create_definition c.args.name.now c.args.kind) c.args.store.now (length c.args.out.now) c.args.out.now
-    (ap not c.if-not-passes.true) c.passes.ensures c.refused.ensures
+    (ap not c.if-not-passes.true) c.passes.ensures
 
-pub create_condition-condition-requires : goal.create_condition-condition-requires
-create_condition-condition-requires c =
+pub create_condition-requires : goal.create_condition-requires
+create_condition-requires c =
     passed c.args.store.now (ap not c.if-not-passes.false) c.passes.ensures
 
-pub returns-then-condition-ne0 : goal.returns-then-condition-ne0
-returns-then-condition-ne0 c =
-    turned_away (create_definition c.args.name.now c.args.kind) c.args.store.now (length c.args.out.now) c.args.out.now
-    (ap not c.if-not-passes.false) c.passes.ensures c.create_condition-condition.ensures c.if-condition-ne0.true c.refused-then-condition-ne0.ensures
+pub returns-in_err-create_condition : goal.returns-in_err-create_condition
+returns-in_err-create_condition c =
+    let passed_on = err_from_is_err_and c.from_residual.result c.from_residual.ensures.1 in
+    rw (passed_on.1, passed_on.2)
+    (turned_away (create_definition c.args.name.now c.args.kind) c.args.store.now (length c.args.out.now) c.args.out.now
+    (ap not c.if-not-passes.false) c.passes.ensures c.in_err-create_condition.field-0.0 c.in_err-create_condition.ensures)
 
-pub create_limit-limit-requires : goal.create_limit-limit-requires
-create_limit-limit-requires c =
+pub create_limit-requires : goal.create_limit-requires
+create_limit-requires c =
     passed c.args.store.now (ap not c.if-not-passes.false) c.passes.ensures
 
-pub returns-then-limit-ne0 : goal.returns-then-limit-ne0
-returns-then-limit-ne0 c =
-    let p = passed c.args.store.now (ap not c.if-not-passes.false) c.passes.ensures in
-    let z = sym c.create_condition-condition.ensures ∙ c.if-condition-ne0.false in
+pub returns-in_err-create_limit : goal.returns-in_err-create_limit
+returns-in_err-create_limit c =
+    let passed_on = err_from_is_err_and c.from_residual.result c.from_residual.ensures.1 in
+    rw (passed_on.1, passed_on.2)
+    (let p = passed c.args.store.now (ap not c.if-not-passes.false) c.passes.ensures in
+    let z = sym c.in_ok-create_condition.ensures in
     answers_limit (create_definition c.args.name.now c.args.kind) c.args.store.now c.args.out.now p _
-    c.create_condition-condition.ensures c.if-condition-ne0.false (created c.args.name.now c.args.kind (bodies_of c.args.store.now))
+    c.in_ok-create_condition.ensures refl (created c.args.name.now c.args.kind (bodies_of c.args.store.now))
     (flat_after_create c.args.store.now c.args.name.now c.args.kind p
     (fresh c.args.store.now c.args.name.now c.args.kind p z).kind)
-    _ _ c.create_limit-limit.ensures c.if-limit-ne0.true c.refused-then-limit-ne0.ensures
+    _ _ c.in_err-create_limit.field-0.0 c.in_err-create_limit.ensures)
 
 pub put_created-length-requires : goal.put_created-length-requires
 put_created-length-requires c =
     let p = passed c.args.store.now (ap not c.if-not-passes.false) c.passes.ensures in
-    let f = fresh c.args.store.now c.args.name.now c.args.kind p (sym c.create_condition-condition.ensures ∙ c.if-condition-ne0.false) in
+    let f = fresh c.args.store.now c.args.name.now c.args.kind p (sym c.in_ok-create_condition.ensures) in
     (p, f.name, f.kind)
 
 pub returns : goal.returns
 returns c =
     let p = passed c.args.store.now (ap not c.if-not-passes.false) c.passes.ensures in
-    let z = sym c.create_condition-condition.ensures ∙ c.if-condition-ne0.false in
+    let z = sym c.in_ok-create_condition.ensures in
     answers_all (create_definition c.args.name.now c.args.kind) c.args.store.now c.args.out.now p _
-    c.create_condition-condition.ensures c.if-condition-ne0.false (created c.args.name.now c.args.kind (bodies_of c.args.store.now))
+    c.in_ok-create_condition.ensures refl (created c.args.name.now c.args.kind (bodies_of c.args.store.now))
     (flat_after_create c.args.store.now c.args.name.now c.args.kind p
     (fresh c.args.store.now c.args.name.now c.args.kind p z).kind)
-    _ _ c.create_limit-limit.ensures c.if-limit-ne0.false c.put_created-length.ensures
+    _ _ c.in_ok-create_limit.ensures refl c.put_created-length.ensures

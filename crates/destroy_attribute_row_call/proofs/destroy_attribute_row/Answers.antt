@@ -1,9 +1,9 @@
 -- `destroy_attribute_row_call::destroy_attribute_row` meets its contract: the call is refused on a bad store and by a
 -- condition (`bad`, `turned_away` of CallLaws). Else what `edit` requires holds (`takes_asks` of Calls), and the plan
 -- does what the change does (`destroy_attribute_row_planned` of CallsPlanned, `made_planned` of Calls).
-use mathlib.Core.Path.{ap}
+use mathlib.Core.Path.{refl, ap}
 use mathlib.Core.Bool.{not}
-use borrow.Author.Rules.{rules}
+use Rattle.std.proofs.lemmas.Result.{err_from_is_err_and}
 use mathlib.Core.List.{[]}
 use lib.ListN.{length}
 use Rattle.rules.specs.Change.{destroy_attribute_row}
@@ -18,28 +18,28 @@ use Rattle.destroy_attribute_row_call.proofs.destroy_attribute_row.Goals as goal
 pub returns-then-not-passes : goal.returns-then-not-passes
 returns-then-not-passes c =
     bad (destroy_attribute_row c.args.element c.args.attribute) c.args.store.now (length c.args.out.now) c.args.out.now
-    (ap not c.if-not-passes.true) c.passes.ensures c.refused.ensures
+    (ap not c.if-not-passes.true) c.passes.ensures
 
-pub destroy_attribute_row_refusal-number-requires : goal.destroy_attribute_row_refusal-number-requires
-destroy_attribute_row_refusal-number-requires c =
+pub destroy_attribute_row_refusal-requires : goal.destroy_attribute_row_refusal-requires
+destroy_attribute_row_refusal-requires c =
     passed c.args.store.now (ap not c.if-not-passes.false) c.passes.ensures
 
-pub returns-then-number-ne0 : goal.returns-then-number-ne0
-returns-then-number-ne0 c =
-    turned_away (destroy_attribute_row c.args.element c.args.attribute) c.args.store.now (length c.args.out.now)
-    c.args.out.now (ap not c.if-not-passes.false) c.passes.ensures c.destroy_attribute_row_refusal-number.ensures
-    c.if-number-ne0.true c.refused-then-number-ne0.ensures
+pub returns-in_err-destroy_attribute_row_refusal : goal.returns-in_err-destroy_attribute_row_refusal
+returns-in_err-destroy_attribute_row_refusal c =
+    let passed_on = err_from_is_err_and c.from_residual.result c.from_residual.ensures.1 in
+    rw (passed_on.1, passed_on.2)
+    (turned_away (destroy_attribute_row c.args.element c.args.attribute) c.args.store.now (length c.args.out.now)
+    c.args.out.now (ap not c.if-not-passes.false) c.passes.ensures c.in_err-destroy_attribute_row_refusal.field-0.0 c.in_err-destroy_attribute_row_refusal.ensures)
 
 pub edit-requires : goal.edit-requires
 edit-requires c =
     takes_asks c.args.store.now (ap not c.if-not-passes.false) c.passes.ensures (destroy_attribute_row c.args.element c.args.attribute)
-    (Serial c.args.element) (Attributes c.args.attribute) c.destroy_attribute_row_refusal-number.ensures
-    c.if-number-ne0.false c.destroying_attribute_row-plan.ensures
+    (Serial c.args.element) (Attributes c.args.attribute) c.in_ok-destroy_attribute_row_refusal.ensures refl c.destroying_attribute_row-plan.ensures
 
 pub returns : goal.returns
 returns c =
     made_planned (destroy_attribute_row c.args.element c.args.attribute) c.args.store.now (length c.args.out.now)
     c.args.out.now (destroy_attribute_row_plan c.args.element c.args.attribute) _ [] (ap not c.if-not-passes.false) c.passes.ensures
-    c.destroy_attribute_row_refusal-number.ensures c.if-number-ne0.false c.destroying_attribute_row-plan.ensures
+    c.in_ok-destroy_attribute_row_refusal.ensures refl c.destroying_attribute_row-plan.ensures
     (λ g e. destroy_attribute_row_planned (store_in c.args.store.now) g c.args.element c.args.attribute [] e)
     c.edit.ensures

@@ -1,9 +1,9 @@
 -- `destroy_element_call::destroy_element` meets its contract: the returns are for a bad store (`bad` of CallLaws), a
 -- condition (`turned_away`) and the answer of `edit` (`made_planned` of Calls, `destroy_element_planned` of
 -- CallsPlanned); what `edit` requires is `takes_asks` of Calls.
-use mathlib.Core.Path.{ap}
+use mathlib.Core.Path.{refl, ap}
 use mathlib.Core.Bool.{not}
-use borrow.Author.Rules.{rules}
+use Rattle.std.proofs.lemmas.Result.{err_from_is_err_and}
 use mathlib.Core.List.{[]}
 use lib.ListN.{length}
 use Rattle.rules.specs.Change.{destroy_element}
@@ -18,26 +18,28 @@ use Rattle.destroy_element_call.proofs.destroy_element.Goals as goal
 pub returns-then-not-passes : goal.returns-then-not-passes
 returns-then-not-passes c =
     bad (destroy_element c.args.element) c.args.store.now (length c.args.out.now) c.args.out.now (ap not c.if-not-passes.true)
-    c.passes.ensures c.refused.ensures
+    c.passes.ensures
 
-pub destroy_element_refusal-number-requires : goal.destroy_element_refusal-number-requires
-destroy_element_refusal-number-requires c =
+pub destroy_element_refusal-requires : goal.destroy_element_refusal-requires
+destroy_element_refusal-requires c =
     passed c.args.store.now (ap not c.if-not-passes.false) c.passes.ensures
 
-pub returns-then-number-ne0 : goal.returns-then-number-ne0
-returns-then-number-ne0 c =
-    turned_away (destroy_element c.args.element) c.args.store.now (length c.args.out.now) c.args.out.now (ap not c.if-not-passes.false)
-    c.passes.ensures c.destroy_element_refusal-number.ensures c.if-number-ne0.true c.refused-then-number-ne0.ensures
+pub returns-in_err-destroy_element_refusal : goal.returns-in_err-destroy_element_refusal
+returns-in_err-destroy_element_refusal c =
+    let passed_on = err_from_is_err_and c.from_residual.result c.from_residual.ensures.1 in
+    rw (passed_on.1, passed_on.2)
+    (turned_away (destroy_element c.args.element) c.args.store.now (length c.args.out.now) c.args.out.now (ap not c.if-not-passes.false)
+    c.passes.ensures c.in_err-destroy_element_refusal.field-0.0 c.in_err-destroy_element_refusal.ensures)
 
 pub edit-requires : goal.edit-requires
 edit-requires c =
     takes_asks c.args.store.now (ap not c.if-not-passes.false) c.passes.ensures (destroy_element c.args.element) Everything
-    (Serial c.args.element) c.destroy_element_refusal-number.ensures c.if-number-ne0.false
+    (Serial c.args.element) c.in_ok-destroy_element_refusal.ensures refl
     c.destroying_element-plan.ensures
 
 pub returns : goal.returns
 returns c =
     made_planned (destroy_element c.args.element) c.args.store.now (length c.args.out.now) c.args.out.now
     (destroy_element_plan c.args.element) _ [] (ap not c.if-not-passes.false) c.passes.ensures
-    c.destroy_element_refusal-number.ensures c.if-number-ne0.false c.destroying_element-plan.ensures
+    c.in_ok-destroy_element_refusal.ensures refl c.destroying_element-plan.ensures
     (λ g e. destroy_element_planned (store_in c.args.store.now) g c.args.element []) c.edit.ensures

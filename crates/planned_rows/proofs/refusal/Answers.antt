@@ -4,15 +4,18 @@
 use native.Mathlib.Omega.{arith}
 use Rattle.lookup.specs.Bodies.{bodies_of}
 use Rattle.planned_rows.specs.Planned.{rows_after}
+use mathlib.Core.Path.{sym, ◌∙◌}
+use Rattle.store_limits.proofs.GivenLaws.{given_ok}
 use Rattle.planned_rows.proofs.RefusalLaws.{refusal_spared, refusal_counted}
 use borrow.Author.Rules.{rules}
 use Rattle.planned_rows.proofs.refusal.Goals as goal
 
-pub returns-then-limit-eq0 : goal.returns-then-limit-eq0
-returns-then-limit-eq0 c =
+pub returns-then-is_ok : goal.returns-then-is_ok
+returns-then-is_ok c =
     let a = c.args in
     refusal_spared c.width_in-w.ensures a.form a.room (rows_after a.plan a.text.now (bodies_of a.store.now))
-    c.row_count-count.ensures c.next_serial-next.ensures c.most_added-most.ensures.adds c.limit.ensures c.if-limit-eq0.true
+    c.row_count-count.ensures c.next_serial-next.ensures c.most_added-most.ensures.adds c.limit.ensures
+    (given_ok c.limit.result (sym c.is_ok.ensures.value ∙ c.if-is_ok.true))
 
 pub filled_refusal-requires : goal.filled_refusal-requires
 filled_refusal-requires c =

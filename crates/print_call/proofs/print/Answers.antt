@@ -4,15 +4,13 @@
 use mathlib.Core.Path.{ap}
 use mathlib.Core.Bool.{not}
 use native.Mathlib.Omega.{arith}
-use Rattle.store_writer.proofs.LimitLaws.{answers_as}
 use borrow.Author.Rules.{rules}
 use Rattle.print_call.proofs.Laws.{within_passed, prints_bad, prints_short, prints_all}
 use Rattle.print_call.proofs.print.Goals as goal
 
 pub returns-then-not-passes : goal.returns-then-not-passes
 returns-then-not-passes c =
-    answers_as c.refused.ensures.0 c.refused.ensures.1
-    (prints_bad c.args.store.now c.args.out.now (ap not c.if-not-passes.true) c.passes.ensures)
+    prints_bad c.args.store.now c.args.out.now (ap not c.if-not-passes.true) c.passes.ensures
 
 pub print_store-length-requires : goal.print_store-length-requires
 print_store-length-requires c =
@@ -20,8 +18,8 @@ print_store-length-requires c =
 
 pub returns-then-length-out : goal.returns-then-length-out
 returns-then-length-out c =
-    answers_as c.refused-then-length-out.ensures.0 c.refused-then-length-out.ensures.1
-    (prints_short c.args.store.now c.args.out.now (ap not c.if-not-passes.false) c.passes.ensures c.print_store-length.ensures (omega (arith, c.if-length-out.true)))
+    prints_short c.args.store.now c.args.out.now (ap not c.if-not-passes.false) c.passes.ensures c.print_store-length.ensures
+    (omega (arith, c.if-length-out.true))
 
 pub print_store-requires : goal.print_store-requires
 print_store-requires c =

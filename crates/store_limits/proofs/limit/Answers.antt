@@ -4,7 +4,6 @@
 use native.Mathlib.Omega.{arith}
 use mathlib.Core.Path.{ap, ◌∙◌}
 use Prim.Native.Nat.{ℕ, ◌*◌}
-use borrow.Author.Rules.{rules}
 use Rattle.store_limits.proofs.WithinLaws.{limit_ceiling, limit_serials, limit_buffer, limit_none}
 use Rattle.store_limits.proofs.limit.Goals as goal
 

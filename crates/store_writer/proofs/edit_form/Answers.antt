@@ -3,24 +3,27 @@
 -- no longer than `most_form` (`form_short` of FormBytesLaws in `store_laws`).
 use Rattle.layout.proofs.LayoutLaws.{width_within}
 use Rattle.store_laws.proofs.StoreLaws.{holds}
-use Rattle.store_writer.proofs.LimitLaws.{answers_as}
+use Rattle.std.proofs.lemmas.Result.{err_from_is_err_and}
+use Rattle.store_limits.proofs.GivenLaws.{refusal_some}
+use mathlib.Core.Path.{refl}
 use Rattle.store_laws.proofs.FormBytesLaws.{form_short}
 use Rattle.store_writer.proofs.EditLaws.{edit_refused, edit_written}
 use borrow.Author.Rules.{rules}
 use Rattle.store_writer.proofs.edit_form.Goals as goal
 
-pub refusal-number-requires : goal.refusal-number-requires
-refusal-number-requires c = (c.requires.0, c.requires.1, c.requires.2, form_short c.requires.3 (width_within c.args.store.now))
+pub refusal-requires : goal.refusal-requires
+refusal-requires c = (c.requires.0, c.requires.1, c.requires.2, form_short c.requires.3 (width_within c.args.store.now))
 
-pub returns-then-number-ne0 : goal.returns-then-number-ne0
-returns-then-number-ne0 c =
+pub returns-in_err-refusal : goal.returns-in_err-refusal
+returns-in_err-refusal c =
     let a = c.args in
     let h = holds a.store.now c.requires.0 in
-    answers_as c.refused.ensures.0 c.refused.ensures.1 (edit_refused h c.requires.3 a.plan a.text.now a.out.now c.refusal-number.ensures c.if-number-ne0.true)
+    let passed_on = err_from_is_err_and c.from_residual.result c.from_residual.ensures.1 in
+    rw (passed_on.1, passed_on.2)
+    (edit_refused h c.requires.3 a.plan a.text.now a.out.now c.in_err-refusal.ensures (refusal_some c.in_err-refusal.field-0.0))
 
 pub returns : goal.returns
 returns c =
     let a = c.args in
     let h = holds a.store.now c.requires.0 in
-    edit_written h c.requires.3 a.plan a.text.now a.out.now c.refusal-number.ensures
-    c.if-number-ne0.false c.put_edited-length.ensures
+    edit_written h c.requires.3 a.plan a.text.now a.out.now c.in_ok-refusal.ensures refl c.put_edited.ensures

@@ -3,7 +3,10 @@
 
 ghost use Rattle.std.specs.Prelude.{◌≡◌, [], ◌∷◌};
 ghost use Rattle.rules.specs.Refusal.{◌if◌, first};
+ghost use Rattle.rules.specs.Given.{number_given, refusal_number};
 ghost use Rattle.instance_search.specs.Instances.{has_instance};
+
+use rules::Refusal;
 
 /// Whether an instance of a definition exists.
 pub fn instance_exists(store: &[u8], definition: u32) -> bool
@@ -21,12 +24,12 @@ pub fn instance_exists(store: &[u8], definition: u32) -> bool
     false
 }
 
-/// The number of a refusal that applies where an instance of a definition exists; 0 where none does.
-pub fn instance_refusal(store: &[u8], definition: u32, number: u32) -> u32
-    ensures { result ≡ first (number if has_instance store.now definition ∷ []) }
+/// The refusal that applies where an instance of a definition exists.
+pub fn instance_refusal(store: &[u8], definition: u32, refusal: Refusal) -> Result<(), Refusal>
+    ensures { number_given result ≡ first (refusal_number refusal if has_instance store.now definition ∷ []) }
 {
     if instance_exists(store, definition) {
-        return number;
+        return Err(refusal);
     }
-    0
+    Ok(())
 }

@@ -1,6 +1,6 @@
 -- What the code of a place hands back, as the definitions have it.
 use mathlib.Core.Path.{◌≡◌, refl, sym, ap, ◌∙◌}
-use mathlib.Core.Bool.{Bool, false, ◌&&◌}
+use mathlib.Core.Bool.{Bool, ◌&&◌}
 use mathlib.Core.List.{List, [], ◌∷◌}
 use Prim.Native.Nat.{ℕ, zero, suc, ◌+◌, ◌-◌, ◌*◌, ◌<◌, ◌≤◌}
 use native.Mathlib.Omega.{arith}
@@ -20,97 +20,69 @@ use Rattle.model.specs.declared.place.Holder.{Holder}
 use Rattle.model.specs.declared.place.Reached.{Reached}
 use Rattle.model.specs.declared.place.Reached.TheVariants.{Member, End, Few}
 use Rattle.model.specs.declared.place.Entered.{Entered}
-use Rattle.model.specs.declared.place.Entered.TheVariants.{Inside, Outside}
+use Rattle.std.specs.Prelude.{Option as Maybe, Some, None}
 use Rattle.model.specs.declared.place.Found.{Found}
-use Rattle.model.specs.declared.place.Found.TheVariants.{At, Absent}
 use Rattle.model.specs.Particle.{particle_of}
 use Rattle.model.specs.Members.{particles_of}
-use Rattle.model.specs.Places.{Particles, no_particle, reach, span_of, at_member, at_gap, last_of, enter_group, entered_at, entered_of, spot_of, top, place_in}
+use Rattle.model.specs.Places.{Particles, no_particle, reach, span_of, last_of, enter_group, entered_at, entered_of, spot_of, top, place_in}
 use Rattle.model.proofs.ParticleLaws.{particle_at_lem, length_particles, Bounded, reach_bounded, span_bounded}
 use Rattle.model.proofs.MembersLaws.{particles_past}
-
--- ---- the last number
-module _ (h : Holder) (r w : Reached) (e : r ≡ w) where
-  pub gap_member : (p : ℕ) → r ≡ Member p → At h (h.start + p) ≡ at_gap h w
-  gap_member p m = rw (← e, m)
-
-  pub gap_end : (p : ℕ) → r ≡ End p → At h (h.start + p) ≡ at_gap h w
-  gap_end p m = rw (← e, m)
-
-  pub gap_few : r ≡ Few → Absent ≡ at_gap h w
-  gap_few m = rw (← e, m)
-
-  pub member_member : (p : ℕ) → r ≡ Member p → At h (h.start + p) ≡ at_member h w
-  member_member p m = rw (← e, m)
-
-  pub member_end : (p : ℕ) → r ≡ End p → Absent ≡ at_member h w
-  member_end p m = rw (← e, m)
-
-  pub member_few : r ≡ Few → Absent ≡ at_member h w
-  member_few m = rw (← e, m)
-
-module _ (h : Holder) (xs : Particles) where
-  pub last_member : (n : ℕ) (f : Found) → (n ≡ 0 → ⊥) → f ≡ at_member h (reach h.depth (n - 1) xs) → f ≡ last_of false n h xs
-  last_member zero f z e = absurd (z refl)
-  last_member (suc n) f z e = let m : suc n - 1 ≡ n = omega arith in e ∙ ap (λ (i : ℕ). at_member h (reach h.depth i xs)) m
-
-  pub enter_some : (n : ℕ) (f : Entered) (r : Reached) → (n ≡ 0 → ⊥) → r ≡ reach h.depth (n - 1) xs → f ≡ entered_at h xs r → f ≡ entered_of n h xs
-  enter_some zero f r z e g = absurd (z refl)
-  enter_some (suc n) f r z e g =
-      let m : suc n - 1 ≡ n = omega arith in
-      g ∙ ap (λ (w : Reached). entered_at h xs w) (e ∙ ap (λ (i : ℕ). reach h.depth i xs) m)
 
 -- ---- a group
 module _ (h : Holder) (p : ℕ) (s : Bytes) (x : Particle) (l : particle_size * p + particle_size ≤ length s) (e : x ≡ particle_of (read_particle (drop (particle_size * p) s))) where
   here : particle_of (get_or (particles_of s) p no_particle) ≡ x
   here = ap particle_of (particle_at_lem p s l) ∙ sym e
 
-  pub enter_element : (i : ℕ) → x.what ≡ Element i → Outside ≡ entered_at h (particles_of s) (Member p)
-  enter_element i w = rw (here, w)
+  pub enter_element : ((k : GroupKind) (n : ℕ) → x.what ≡ Group k n → ⊥) → None ≡ entered_at h (particles_of s) (Member p)
+  enter_element w = by x.what refl
+    where
+      by : (y : What) → x.what ≡ y → None ≡ entered_at h (particles_of s) (Member p)
+      by (Element i) e = rw (here, e)
+      by (Group k n) e = absurd (w k n e)
 
   pub enter_group_lem : (k : GroupKind) (n size : ℕ) (b : Bool) → x.what ≡ Group k n
       → size ≡ span_of h.depth (particles_of (take (length s - particle_size * (p + 1)) (drop (particle_size * (p + 1)) s))) → b ≡ plain x.quantifier k
-      → Inside (record { start = h.start + (p + 1); depth = h.depth + 1; kind = k; spine = h.spine && b }) (p + 1) size ≡ entered_at h (particles_of s) (Member p)
+      → Some (record { list = record { start = h.start + (p + 1); depth = h.depth + 1; kind = k; spine = h.spine && b }; from = p + 1; size = size }) ≡ entered_at h (particles_of s) (Member p)
   enter_group_lem k n size b w m c =
       let t : size ≡ span_of h.depth (drop (p + 1) (particles_of s)) = m ∙ rw (tail_seen s (particle_size * (p + 1)), particles_past (p + 1) s) in
       rw (here, w, t, c)
 
 -- ---- a place
 module _ (insert : Bool) (h : Holder) (xs : Particles) where
-  pub place_none : (place : List ℕ) → length place ≡ 0 → Absent ≡ spot_of insert place h xs
+  pub place_none : (place : List ℕ) → length place ≡ 0 → None ≡ spot_of insert place h xs
   unfolding spot_of
   place_none [] z = refl
   place_none (n ∷ place) z = absurd (omega arith)
 
-  pub place_last : (place : List ℕ) (f : Found) → length place ≡ 1 → f ≡ last_of insert (get_or place 0 0) h xs → f ≡ spot_of insert place h xs
+  pub place_last : (place : List ℕ) (f : Maybe Found) → length place ≡ 1 → f ≡ last_of insert (get_or place 0 0) h xs → f ≡ spot_of insert place h xs
   unfolding spot_of
   place_last [] f z e = absurd (omega arith)
   place_last (n ∷ []) f z e = e
   place_last (n ∷ m ∷ ns) f z e = absurd (omega arith)
 
-  module _ (e : Entered) where
-    pub place_out : (place : List ℕ) → (length place ≡ 0 → ⊥) → (length place ≡ 1 → ⊥) → e ≡ entered_of (get_or place 0 0) h xs → e ≡ Outside → Absent ≡ spot_of insert place h xs
+  module _ (e : Maybe Entered) where
+    pub place_out : (place : List ℕ) → (length place ≡ 0 → ⊥) → (length place ≡ 1 → ⊥) → e ≡ entered_of (get_or place 0 0) h xs → e ≡ None → None ≡ spot_of insert place h xs
     unfolding spot_of
     place_out [] y z g o = absurd (y refl)
     place_out (n ∷ []) y z g o = absurd (z refl)
     place_out (n ∷ m ∷ ns) y z g o = rw (← g, o)
 
-    pub place_in_lem : (place : List ℕ) (f : Found) (k : Holder) (from size : ℕ) → (length place ≡ 0 → ⊥) → (length place ≡ 1 → ⊥) → e ≡ entered_of (get_or place 0 0) h xs → e ≡ Inside k from size
-        → f ≡ spot_of insert (take (length place - 1) (drop 1 place)) k (take size (drop from xs)) → f ≡ spot_of insert place h xs
+    pub place_in_lem : (place : List ℕ) (f : Maybe Found) (x : Entered) → (length place ≡ 0 → ⊥) → (length place ≡ 1 → ⊥) → e ≡ entered_of (get_or place 0 0) h xs → e ≡ Some x
+        → f ≡ spot_of insert (take (length place - 1) (drop 1 place)) x.list (take x.size (drop x.from xs)) → f ≡ spot_of insert place h xs
     unfolding spot_of
-    place_in_lem [] f k from size y z g o i = absurd (y refl)
-    place_in_lem (n ∷ []) f k from size y z g o i = absurd (z refl)
-    place_in_lem (n ∷ m ∷ ns) f k from size y z g o i = rw (← g, o) (i ∙ ap (λ (l : List ℕ). spot_of insert l k (take size (drop from xs))) (tail_seen (n ∷ m ∷ ns) 1))
+    place_in_lem [] f x y z g o i = absurd (y refl)
+    place_in_lem (n ∷ []) f x y z g o i = absurd (z refl)
+    place_in_lem (n ∷ m ∷ ns) f x y z g o i = rw (← g, o) (i ∙ ap (λ (l : List ℕ). spot_of insert l x.list (take x.size (drop x.from xs))) (tail_seen (n ∷ m ∷ ns) 1))
 
 -- the part of the group that was entered
-pub record Part (h : Holder) (s : Bytes) (g : Holder) (from size : ℕ) : Type 0 where
-  pub start : g.start ≡ h.start + from
-  pub deep : g.depth ≡ h.depth + 1
-  pub room : particle_size * from + particle_size * size ≤ length s
+pub record Part (h : Holder) (s : Bytes) (e : Entered) : Type 0 where
+  pub start : e.list.start ≡ h.start + e.from
+  pub deep : e.list.depth ≡ h.depth + 1
+  pub room : particle_size * e.from + particle_size * e.size ≤ length s
 
-abbrev Parted : Holder → Bytes → Entered → Type 0
-Parted h s Outside = Unit {0}
-Parted h s (Inside g from size) = Part h s g from size
+abbrev Parted : Holder → Bytes → Maybe Entered → Type 0
+Parted h s None = Unit {0}
+Parted h s (Some e) = Part h s e
 
 entered_parted : (h : Holder) (s : Bytes) (n : ℕ) → Parted h s (entered_of n h (particles_of s))
 entered_parted h s zero = tt
@@ -130,13 +102,13 @@ entered_parted h s (suc n) = by (reach h.depth n (particles_of s)) (reach_bounde
     by (End p) l = tt
     by Few l = tt
 
-pub entered_part : (h : Holder) (s : Bytes) (n : ℕ) (e : Entered) (g : Holder) (from size : ℕ) → e ≡ entered_of n h (particles_of s) → e ≡ Inside g from size → Part h s g from size
-entered_part h s n e g from size q o = rw (← q, o) at (entered_parted h s n)
+pub entered_part : (h : Holder) (s : Bytes) (n : ℕ) (e : Maybe Entered) (x : Entered) → e ≡ entered_of n h (particles_of s) → e ≡ Some x → Part h s x
+entered_part h s n e x q o = rw (← q, o) at (entered_parted h s n)
 
-pub place_long : (insert : Bool) (place : List ℕ) (s : Bytes) → 5 < length place → Absent ≡ place_in insert place s
+pub place_long : (insert : Bool) (place : List ℕ) (s : Bytes) → 5 < length place → None ≡ place_in insert place s
 unfolding place_in
 place_long insert place s h = rw (lt-leb (length place) 5 h, place_in)
 
-pub place_short : (insert : Bool) (place : List ℕ) (s : Bytes) (f : Found) → length place ≤ 5 → f ≡ spot_of insert place top (particles_of s) → f ≡ place_in insert place s
+pub place_short : (insert : Bool) (place : List ℕ) (s : Bytes) (f : Maybe Found) → length place ≤ 5 → f ≡ spot_of insert place top (particles_of s) → f ≡ place_in insert place s
 unfolding place_in
 place_short insert place s f h e = rw (le-leb (length place) 5 h, place_in) e

@@ -23,10 +23,10 @@ use Rattle.model.specs.declared.place.Holder.{Holder}
 use Rattle.model.specs.declared.place.Reached.{Reached}
 use Rattle.model.specs.declared.place.Reached.TheVariants.{Member, End, Few}
 use Rattle.model.specs.declared.place.Found.{Found}
-use Rattle.model.specs.declared.place.Found.TheVariants.{At, Absent}
+use Rattle.std.specs.Prelude.{Option as Maybe, None}
 use Rattle.model.specs.Particle.{what_of, particle_of}
 use Rattle.model.specs.Members.{index_member, index_members, particles_of, members_from, all_members}
-use Rattle.model.specs.Places.{Particles, onward, ended, reach, span_of, at_member, at_gap, last_of, enter_group, no_particle, entered_at, entered_of, go_on}
+use Rattle.model.specs.Places.{Particles, leads_to, onward, ended, reach, span_of, at_member, at_gap, last_of, enter_group, no_particle, entered_at, entered_of, go_on}
 use Rattle.model.specs.Places.{spot_of, top, place_in, PlaceTold, told, shown, last_by}
 use Rattle.model.proofs.ParticleLaws.{Bounded, reach_bounded, span_bounded}
 
@@ -172,7 +172,7 @@ pub record Seen (whole : Particles) (h : Holder) (xs : Particles) : Type 0 where
   pub same : (e p : ℕ) → h.depth ≤ e → p ≤ length xs → build (drop (h.start + p) whole) e ≡ build (drop p xs) e
 
 module _ (whole : Particles) (h : Holder) (xs : Particles) (v : Seen whole h xs) where
-  shown_at : (p : ℕ) (ms : Members ℕ) → p ≤ length xs → members_in h.depth (drop p xs) ≡ ms → shown whole (At h (h.start + p)) ≡ some (record { kind = h.kind; spine = h.spine; picked = ms })
+  shown_at : (p : ℕ) (ms : Members ℕ) → p ≤ length xs → members_in h.depth (drop p xs) ≡ ms → shown whole (leads_to h (h.start + p)) ≡ some (record { kind = h.kind; spine = h.spine; picked = ms })
   shown_at p ms l e = ap (λ (z : Members ℕ). some (record { kind = h.kind; spine = h.spine; picked = z })) (ap index_members (v.same h.depth p (omega arith) l) ∙ e)
 
   gap_found : (n : ℕ) → shown whole (last_of true n h xs) ≡ told h.kind h.spine (gap n (members_in h.depth xs))
@@ -243,7 +243,7 @@ module _ (insert : Bool) (m : ℕ) (ns : List ℕ) (ih : Finds insert (m ∷ ns)
       (ap (λ (z : ℕ). build (part_at p) z) e ∙ part_same (drop (p + 1) xs) h.depth (suc h.depth) 0 (omega arith) (omega arith)
       ∙ ap (λ (z : ℕ). build (drop z xs) (suc h.depth)) f)
 
-  abbrev gone : ℕ → Quantifier → ℕ → ℕ → Found
+  abbrev gone : ℕ → Quantifier → ℕ → ℕ → Maybe Found
   gone p q sort i = go_on (enter_group h p xs q (what_of sort i)) (λ g from size. spot_of insert (m ∷ ns) g (take size (drop from xs)))
 
   at_particle : (p : ℕ) (x : FlatParticle) (sort : ℕ) (rest : Members ℕ) → p < length xs
@@ -289,7 +289,7 @@ found_placed insert place s = by (leb (length place) 5)
     all = record { same = λ e p d l. let z : 0 + p ≡ p = omega arith in ap (λ (i : ℕ). build (drop i (particles_of s)) e) z }
 
     by : (b : Bool)
-        → shown (particles_of s) (elim b [ true ↦ spot_of insert place top (particles_of s) | false ↦ Absent ])
+        → shown (particles_of s) (elim b [ true ↦ spot_of insert place top (particles_of s) | false ↦ None ])
         ≡ told Sequence true (elim b [ true ↦ find (last_by insert) place (members_in 0 (particles_of s)) | false ↦ none ])
     by true = place_found insert place (particles_of s) top (particles_of s) all
     by false = refl

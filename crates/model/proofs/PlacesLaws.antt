@@ -15,14 +15,6 @@ use Rattle.model.specs.Members.{particles_of}
 use Rattle.model.specs.Places.{onward, ended, reach, span_of}
 use Rattle.model.proofs.MembersLaws.{particles_few, particles_more}
 
-pub ended_all : (n p : ℕ) → n ≡ 0 → End p ≡ onward p (ended n)
-ended_all zero p h = ap (λ (i : ℕ). End i) (sym (add-zero p))
-ended_all (suc n) p h = absurd (omega arith)
-
-pub ended_few : (n p : ℕ) → (n ≡ 0 → ⊥) → Few ≡ onward p (ended n)
-ended_few zero p h = absurd (h refl)
-ended_few (suc n) p h = refl
-
 onward_then : (k : ℕ) (r : Reached) → onward k (onward 1 r) ≡ onward (k + 1) r
 onward_then k (Member p) = let e : k + (1 + p) ≡ k + 1 + p = omega arith in ap (λ (i : ℕ). Member i) e
 onward_then k (End p) = let e : k + (1 + p) ≡ k + 1 + p = omega arith in ap (λ (i : ℕ). End i) e

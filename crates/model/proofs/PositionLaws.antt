@@ -22,9 +22,9 @@ use Rattle.model.specs.declared.place.Holder.{Holder}
 use Rattle.model.specs.declared.place.Reached.{Reached}
 use Rattle.model.specs.declared.place.Reached.TheVariants.{Member, End, Few}
 use Rattle.model.specs.declared.place.Found.{Found}
-use Rattle.model.specs.declared.place.Found.TheVariants.{At}
+use Rattle.std.specs.Prelude.{Option as Maybe}
 use Rattle.model.specs.Particle.{what_of, particle_of}
-use Rattle.model.specs.Places.{Particles, onward, reach, span_of, at_member, at_gap, last_of, no_particle, entered_at, entered_of, go_on, spot_of, last_by}
+use Rattle.model.specs.Places.{Particles, leads_to, onward, reach, span_of, at_member, at_gap, last_of, no_particle, entered_at, entered_of, go_on, spot_of, last_by}
 use Rattle.model.specs.Positions.{element_particle, group_particle, spread, count, offset, holder, spot_in, leading, trailing, level}
 use Rattle.model.proofs.FindLaws.{reach_deeper, reach_here, reach_past}
 use Rattle.rules.proofs.DecodeLaws.{quantifier_code_lem}
@@ -201,15 +201,15 @@ walk (group q k ms rest) d (suc n) = by (walk rest d n)
 -- ---- a number of a place
 module _ (h : Holder) (ms : Members ℕ) where
   -- what is found with t from there on
-  spot_here : (F : Context ℕ → Context ℕ) (p n : ℕ) (t : Members ℕ) → Passed h.depth n ms F p t → spot_in h (within F (right t)) ≡ At h (h.start + p)
+  spot_here : (F : Context ℕ → Context ℕ) (p n : ℕ) (t : Members ℕ) → Passed h.depth n ms F p t → spot_in h (within F (right t)) ≡ leads_to h (h.start + p)
   spot_here F p n t w =
       let e : offset (F here) ≡ p = omega (arith, w.moved here) in
-      ap₂ (λ (g : Holder) (i : ℕ). At g (h.start + i)) (w.held h 0 here) e
+      ap₂ (λ (g : Holder) (i : ℕ). leads_to g (h.start + i)) (w.held h 0 here) e
 
   gap_spot : (n : ℕ) → Walk h.depth n ms → last_of true n h (spread h.depth ms) ≡ spot_in h (gap n ms)
   gap_spot n (walked F p t w) = ap (λ (r : Reached). at_gap h r) w.reached ∙ at_t t ∙ sym (ap (λ (o : Option (Spot ℕ)). spot_in h o) (w.same right) ∙ spot_here F p n t w)
     where
-      at_t : (t : Members ℕ) → at_gap h (standing t p) ≡ At h (h.start + p)
+      at_t : (t : Members ℕ) → at_gap h (standing t p) ≡ leads_to h (h.start + p)
       at_t done = refl
       at_t (el q i rest) = refl
       at_t (group q k ns rest) = refl
@@ -252,7 +252,7 @@ module _ (insert : Bool) (m : ℕ) (ns : List ℕ) (ih : Placed insert (m ∷ ns
   abbrev goes : Members ℕ → Option (Spot ℕ)
   goes t = find (last_by insert) (m ∷ ns) t
 
-  abbrev on_from : Holder → ℕ → ℕ → Found
+  abbrev on_from : Holder → ℕ → ℕ → Maybe Found
   on_from g from size = spot_of insert (m ∷ ns) g (take size (drop from xs))
 
   abbrev list_of : ℕ → Quantifier → GroupKind → Holder
@@ -278,7 +278,7 @@ module _ (insert : Bool) (m : ℕ) (ns : List ℕ) (ih : Placed insert (m ∷ ns
       let e : h.start + (p + 1) + offset f.context ≡ h.start + offset (F (into q k f.context rest)) = omega (arith, w.moved (into q k f.context rest)) in
       let g : holder (list_of p q k) 0 f.context ≡ holder h 0 (F (into q k f.context rest)) =
       sym (w.held h 0 (into q k f.context rest) ∙ ap (λ (i : ℕ). holder h i (into q k f.context rest)) z) in
-      ap₂ (λ (l : Holder) (i : ℕ). At l i) g e
+      ap₂ (λ (l : Holder) (i : ℕ). leads_to l i) g e
 
   entered : (F : Context ℕ → Context ℕ) (p n : ℕ) (t : Members ℕ) → Passed h.depth n ms F p t → go_on (entered_at h xs (standing t p)) on_from ≡ spot_in h (within F (inside goes t))
   unfolding particle_of

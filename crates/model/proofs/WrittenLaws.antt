@@ -16,7 +16,7 @@ use Rattle.rules.specs.Layout.{FlatParticle, particle_bytes, each, group_code, h
 use Rattle.rules.specs.Place.{find}
 use Rattle.rules.proofs.PreorderLaws.{build_preorder}
 use Rattle.model.specs.declared.place.Found.{Found}
-use Rattle.model.specs.declared.place.Found.TheVariants.{Absent}
+use Rattle.std.specs.Prelude.{Option as Maybe, None}
 use Rattle.model.specs.Members.{index_member, index_members, particles_of, members_from, all_members}
 use Rattle.model.specs.Places.{Particles, spot_of, top, place_in, last_by}
 use Rattle.model.specs.Positions.{element_particle, group_particle, spread, spot_in}
@@ -58,13 +58,13 @@ members_written ms =
 
 -- WHERE THE CODE FINDS A PLACE in a model that the layout wrote
 pub place_written : (insert : Bool) (place : List ℕ) (ms : Members ℕ)
-    → place_in insert place (each particle_bytes (spread 0 ms)) ≡ elim (leb (length place) 5) [ true ↦ spot_in top (find (last_by insert) place ms) | false ↦ Absent ]
+    → place_in insert place (each particle_bytes (spread 0 ms)) ≡ elim (leb (length place) 5) [ true ↦ spot_in top (find (last_by insert) place ms) | false ↦ None ]
 unfolding place_in
 place_written insert place ms = by (leb (length place) 5)
   where
     by : (b : Bool)
-        → ◌≡◌ {A = Found}
-        (elim b [ true ↦ spot_of insert place top (particles_of (each particle_bytes (spread 0 ms))) | false ↦ Absent ])
-        (elim b [ true ↦ spot_in top (find (last_by insert) place ms) | false ↦ Absent ])
+        → ◌≡◌ {A = Maybe Found}
+        (elim b [ true ↦ spot_of insert place top (particles_of (each particle_bytes (spread 0 ms))) | false ↦ None ])
+        (elim b [ true ↦ spot_in top (find (last_by insert) place ms) | false ↦ None ])
     by true = ap (λ (l : Particles). spot_of insert place top l) (particles_written (spread 0 ms)) ∙ place_spot insert place top ms
     by false = refl

@@ -1,5 +1,5 @@
 -- The particles of a model, and where a place stands among them.
-use Rattle.std.specs.Prelude.{ℕ, suc, ◌+◌, ◌&&◌, [], ◌∷◌, ◌++◌}
+use Rattle.std.specs.Prelude.{ℕ, suc, ◌+◌, ◌&&◌, [], ◌∷◌, ◌++◌, Option as Maybe, None}
 use Rattle.std.proofs.Math.Option.{Option, none, some}
 use Rattle.rules.specs.declared.Quantifier.{Quantifier}
 use Rattle.rules.specs.declared.GroupKind.{GroupKind}
@@ -9,8 +9,7 @@ use Rattle.rules.specs.Layout.{FlatParticle, quantifier_code, group_code, how_ma
 use Rattle.rules.specs.Place.{Context, here, past, over, into, plug, plain, Found as Spot}
 use Rattle.model.specs.declared.place.Holder.{Holder}
 use Rattle.model.specs.declared.place.Found.{Found}
-use Rattle.model.specs.declared.place.Found.TheVariants.{At, Absent}
-use Rattle.model.specs.Places.{Particles}
+use Rattle.model.specs.Places.{Particles, leads_to}
 
 -- ---- the particles of members of depth d, in order
 abbrev pub element_particle : ℕ → Quantifier → ℕ → Deep FlatParticle
@@ -43,9 +42,9 @@ holder h p (past q i c) = holder h (suc p) c
 holder h p (over q k ms c) = holder h (suc (count ms + p)) c
 holder h p (into q k c rest) = holder (record { start = h.start + (p + 1); depth = h.depth + 1; kind = k; spine = h.spine && plain q k }) 0 c
 
-abbrev pub spot_in : Holder → Option (Spot ℕ) → Found
-spot_in h none = Absent
-spot_in h (some f) = At (holder h 0 f.context) (h.start + offset f.context)
+abbrev pub spot_in : Holder → Option (Spot ℕ) → Maybe Found
+spot_in h none = None
+spot_in h (some f) = leads_to (holder h 0 f.context) (h.start + offset f.context)
 
 -- ---- the particles before a place, at a depth of d around it, where the
 -- members t stand there; those after t; and t's own depth

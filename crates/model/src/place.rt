@@ -2,7 +2,7 @@
 use rules::GroupKind;
 
 /// A list of a model: the particle that its members start at, their depth, its kind, and whether it is a spine list.
-#[derive(Clone, Copy)]
+#[derive(Clone, Copy, Debug, PartialEq, Eq)]
 pub struct Holder {
     pub start: usize,
     pub depth: usize,
@@ -11,14 +11,14 @@ pub struct Holder {
 }
 
 /// What a place leads to: a particle of the list that holds it, or for insertion the list's end.
-#[derive(Clone, Copy)]
-pub enum Found {
-    At(Holder, usize),
-    Absent,
+#[derive(Clone, Copy, Debug, PartialEq, Eq)]
+pub struct Found {
+    pub holder: Holder,
+    pub particle: usize,
 }
 
 /// What stands past some members of a list.
-#[derive(Clone, Copy)]
+#[derive(Clone, Copy, Debug, PartialEq, Eq)]
 pub enum Reached {
     Member(usize),
     End(usize),
@@ -26,8 +26,9 @@ pub enum Reached {
 }
 
 /// A group's list, with the first particle of its part and how many there are.
-#[derive(Clone, Copy)]
-pub enum Entered {
-    Inside(Holder, usize, usize),
-    Outside,
+#[derive(Clone, Copy, Debug, PartialEq, Eq)]
+pub struct Entered {
+    pub list: Holder,
+    pub from: usize,
+    pub size: usize,
 }

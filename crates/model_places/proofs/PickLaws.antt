@@ -20,11 +20,11 @@ use Rattle.rules.specs.Passing.{passes}
 use Rattle.rules.specs.Refusal.{Condition, first}
 use Rattle.rules.specs.Place.{Context, Found as Spot, nth, find, rename_around, within, after_members, in_group, present}
 use Rattle.model.specs.declared.What.{What}
-use Rattle.model.specs.declared.What.TheVariants as what
+use Rattle.model.specs.declared.What.TheVariants.{Element, Group}
 use Rattle.model.specs.declared.Particle.{Particle}
 use Rattle.model.specs.declared.place.Holder.{Holder}
 use Rattle.model.specs.declared.place.Found.{Found}
-use Rattle.model.specs.declared.place.Found.TheVariants.{At, Absent}
+use Rattle.std.specs.Prelude.{Option as Maybe, Some, None}
 use Rattle.model.specs.Particle.{what_of, particle_of}
 use Rattle.model.specs.Members.{particles_of}
 use Rattle.model.specs.Places.{Particles, no_particle, place_in}
@@ -35,10 +35,8 @@ use Rattle.form_index.specs.Reading.{definition_in, particles_before, model_part
 use Rattle.layout.specs.Bodies.{shape_of, particle_body, definitions_in, particles_in}
 use Rattle.change_laws.specs.FirstCondition.{Gives}
 use Rattle.store_laws.proofs.Encoded.{encoded}
-use Rattle.model_places.specs.declared.Located.{Located}
 use Rattle.model_places.specs.declared.Picked.{Picked}
-use Rattle.model_places.specs.declared.Picked.TheVariants as pick
-use Rattle.model_places.specs.Placing.{index_of_name, model_in, part_in, leads, found_by, Placed, pick_of, ElementAt, GroupAt, Picks, Picking, located_at, Finds}
+use Rattle.model_places.specs.Placing.{index_of_name, model_in, part_in, leads, found_by, Placed, ElementAt, GroupAt, MemberAt, Picks, Picking}
 use Rattle.model_places.proofs.PlaceLaws.{absent, present_at}
 use Rattle.rules.proofs.DecodeLaws.{quantifier_code_lem}
 
@@ -114,51 +112,45 @@ module _ {bs : Bytes} {o : ℕ} {i : Bool} {place : List ℕ} {h : Holder} {p : 
         ∙ (ap (λ (n : ℕ). get_or (particles_of (part_in bs o)) n no_particle) (sym z) ∙ sym (get_or-drop p (particles_of (part_in bs o)) 0 no_particle))
         ∙ ap (λ (l : Particles). get_or l 0 no_particle) e
 
-code_group : (k : GroupKind) (n : ℕ) → what_of (group_code k) n ≡ what.Group k n
+code_group : (k : GroupKind) (n : ℕ) → what_of (group_code k) n ≡ Group k n
 code_group Sequence n = refl
 code_group Choice n = refl
 
-abbrev pub pick_in : Bytes → ℕ → Holder → ℕ → Picked
-pick_in bs o h p = pick_of h p (particle_of (read_particle (drop (particle_size * p) (part_in bs o)))).quantifier (particle_of (read_particle (drop (particle_size * p) (part_in bs o)))).what
+-- what the code reads there
+abbrev pub member_in : Bytes → ℕ → ℕ → Particle
+member_in bs o p = particle_of (read_particle (drop (particle_size * p) (part_in bs o)))
 
-abbrev pick_read : Holder → ℕ → Deep FlatParticle → Picked
-pick_read h p y = pick_of h p (particle_of y).quantifier (particle_of y).what
+abbrev particle_as : What → Quantifier → Particle
+particle_as w q = record { what = w; quantifier = q }
 
-pub picks_there : {bs : Bytes} {o : ℕ} {place : List ℕ} {h : Holder} {p : ℕ} → Placed bs o false place h p → Picks bs o place (pick_in bs o h p)
+pub picks_there : {bs : Bytes} {o : ℕ} {place : List ℕ} {f : Found} → Placed bs o false place f.holder f.particle
+    → MemberAt bs o place f (member_in bs o f.particle).quantifier (member_in bs o f.particle).what
 unfolding rename particle_of
-picks_there {bs} {o} {place} {h} {p} x = by x.found.picked refl
+picks_there {bs} {o} {place} {f} x = by x.found.picked refl
   where
+    p : ℕ
+    p = f.particle
+
     d : ℕ
     d = level 0 (around x)
 
-    by : (t : Members Bytes) → x.found.picked ≡ t → Picks bs o place (pick_in bs o h p)
+    Goal : Particle → Type 0
+    Goal y = MemberAt bs o place f y.quantifier y.what
+
+    by : (t : Members Bytes) → x.found.picked ≡ t → Goal (member_in bs o p)
     by done e = absurd (false≢true (sym (found_held place (model_in bs o) x.found x.there) ∙ ap is_done e))
     by (el q n rest) e =
-        let f : drop p (particles_of (part_in bs o)) ≡ element_particle d q (index_of_name bs n) ∷ (spread d (rename (index_of_name bs) rest) ++ trailing 0 (around x)) =
+        let g : drop p (particles_of (part_in bs o)) ≡ element_particle d q (index_of_name bs n) ∷ (spread d (rename (index_of_name bs) rest) ++ trailing 0 (around x)) =
         from_there x ∙ ap (λ (t : Members Bytes). spread d (rename (index_of_name bs) t) ++ trailing 0 (around x)) e in
-        let r : pick_in bs o h p ≡ pick.Element h p q = ap (pick_read h p) (read_there x _ _ f) ∙ ap (λ (z : Quantifier). pick.Element h p z) (quantifier_code_lem q) in
-        subst (λ (z : Picked). Picks bs o place z) (sym r) (record { placed = x; name = n; rest = rest; is = e })
+        let r : member_in bs o p ≡ particle_as (Element (index_of_name bs n)) q = ap particle_of (read_there x _ _ g) ∙ ap (particle_as (Element (index_of_name bs n))) (quantifier_code_lem q) in
+        subst Goal (sym r) (record { placed = x; name = n; rest = rest; is = e })
     by (group q k ms rest) e =
-        let f : drop p (particles_of (part_in bs o)) ≡ group_particle d q k
+        let g : drop p (particles_of (part_in bs o)) ≡ group_particle d q k
         (how_many (rename (index_of_name bs) ms)) ∷ ((spread (suc d) (rename (index_of_name bs) ms) ++ spread d (rename (index_of_name bs) rest)) ++ trailing 0 (around x)) =
         from_there x ∙ ap (λ (t : Members Bytes). spread d (rename (index_of_name bs) t) ++ trailing 0 (around x)) e in
-        let r : pick_in bs o h p ≡ pick.Group h p q k (how_many (rename (index_of_name bs) ms)) =
-        ap (pick_read h p) (read_there x _ _ f) ∙ ap₂ (λ (z : Quantifier) (w : What). pick_of h p z w) (quantifier_code_lem q) (code_group k (how_many (rename (index_of_name bs) ms))) in
-        subst (λ (z : Picked). Picks bs o place z) (sym r) (record { placed = x; inner = ms; rest = rest; is = e; many = many_named (index_of_name bs) ms })
-
--- ---- the code
-module _ (h : Holder) (p : ℕ) (s : Bytes) {r : Bytes} {x : Particle} (u : r ≡ drop (particle_size * p) s) (y : x ≡ particle_of (read_particle r)) where
-  abbrev there : Particle
-  there = particle_of (read_particle (drop (particle_size * p) s))
-
-  read_is : x ≡ there
-  read_is = y ∙ ap (λ (z : Bytes). particle_of (read_particle z)) u
-
-  pub pick_element : (i : ℕ) → x.what ≡ what.Element i → pick.Element h p x.quantifier ≡ pick_of h p there.quantifier there.what
-  pick_element i w = ap (pick_of h p x.quantifier) (sym w) ∙ ap (λ (y : Particle). pick_of h p y.quantifier y.what) read_is
-
-  pub pick_group : (k : GroupKind) (n : ℕ) → x.what ≡ what.Group k n → pick.Group h p x.quantifier k n ≡ pick_of h p there.quantifier there.what
-  pick_group k n w = ap (pick_of h p x.quantifier) (sym w) ∙ ap (λ (y : Particle). pick_of h p y.quantifier y.what) read_is
+        let r : member_in bs o p ≡ particle_as (Group k (how_many (rename (index_of_name bs) ms))) q =
+        ap particle_of (read_there x _ _ g) ∙ ap₂ particle_as (code_group k (how_many (rename (index_of_name bs) ms))) (quantifier_code_lem q) in
+        subst Goal (sym r) (record { placed = x; inner = ms; rest = rest; is = e; many = many_named (index_of_name bs) ms })
 
 -- ---- how many particles a store that passes has
 body_few : (bs : Bytes) → passes bs ≡ true → length (particles_in bs) ≤ particle_size * 256
@@ -176,40 +168,36 @@ part_few bs q o =
 pub own_model : (bs : Bytes) {defs parts r : Bytes} (o : ℕ) → defs ≡ definitions_in bs → parts ≡ particles_in bs → r ≡ model_part defs parts o → r ≡ part_in bs o
 own_model bs o d p e = e ∙ ap₂ (λ (a b : Bytes). model_part a b o) d p
 
-module _ (bs : Bytes) (pass : passes bs ≡ true) (o : ℕ) (l : o < definition_count bs) (place : List ℕ) {part : Bytes} (own : part ≡ part_in bs o) {f : Found} (e : f ≡ place_in false place part) where
-  found_in_lem : place_in false place (part_in bs o) ≡ f
+-- ---- the code
+module _ (bs : Bytes) (pass : passes bs ≡ true) (o : ℕ) (l : o < definition_count bs) (place : List ℕ) {part : Bytes} (own : part ≡ part_in bs o) {r : Maybe Found} (e : r ≡ place_in false place part) where
+  found_in_lem : place_in false place (part_in bs o) ≡ r
   found_in_lem = sym (e ∙ ap (place_in false place) own)
 
-  pub picked_none : f ≡ Absent → Picking bs o place pick.Absent
+  pub picked_none : r ≡ None → Picking bs o place None
   picked_none w = record { is = absent bs pass o l false place (found_in_lem ∙ w) }
 
-  module _ (h : Holder) (p : ℕ) (w : f ≡ At h p) where
-    pub picked_inside : p ≤ 256
-    picked_inside = omega (arith, (present_at bs pass o l false place h p (found_in_lem ∙ w)).inside, part_few bs pass o)
+  module _ (f : Found) (w : r ≡ Some f) where
+    placed : Placed bs o false place f.holder f.particle
+    placed = present_at bs pass o l false place f.holder f.particle (found_in_lem ∙ w)
 
-    pub picked_there : {r : Picked}
-        → r ≡ pick_of h p (particle_of (read_particle (drop (particle_size * p) part))).quantifier (particle_of (read_particle (drop (particle_size * p) part))).what
-        → Picking bs o place r
-    picked_there {r} q =
-        let z : r ≡ pick_in bs o h p =
-        q ∙ ap (λ (s : Bytes). pick_of h p (particle_of (read_particle (drop (particle_size * p) s))).quantifier (particle_of (read_particle (drop (particle_size * p) s))).what) own in
-        record { is = subst (λ (y : Picked). Picks bs o place y) (sym z) (picks_there (present_at bs pass o l false place h p (found_in_lem ∙ w))) }
+    pub picked_inside : f.particle ≤ 256
+    picked_inside = omega (arith, placed.inside, part_few bs pass o)
 
-module _ {bs : Bytes} {o : ℕ} {place : List ℕ} {r : Picked} (x : Picking bs o place r) where
-  pub as_element : {h : Holder} {p : ℕ} {q : Quantifier} → r ≡ pick.Element h p q → ElementAt bs o place h p q
-  as_element e = subst (λ (z : Picked). Picks bs o place z) e x.is
+    pub picked_there : {s : Bytes} {x : Particle} → s ≡ drop (particle_size * f.particle) part → x ≡ particle_of (read_particle s) → Picking bs o place (Some (record { place = f; member = x }))
+    picked_there {s} {x} u q =
+        let z : x ≡ member_in bs o f.particle = q ∙ ap (λ (t : Bytes). particle_of (read_particle t)) (u ∙ ap (drop (particle_size * f.particle)) own) in
+        record { is = subst (λ (y : Particle). MemberAt bs o place f y.quantifier y.what) (sym z) (picks_there {f = f} placed) }
 
-  pub as_group : {h : Holder} {p : ℕ} {q : Quantifier} {k : GroupKind} {n : ℕ} → r ≡ pick.Group h p q k n → GroupAt bs o place h p q k n
-  as_group e = subst (λ (z : Picked). Picks bs o place z) e x.is
+module _ {bs : Bytes} {o : ℕ} {place : List ℕ} {r : Maybe Picked} (x : Picking bs o place r) where
+  -- what stands there
+  pub as_member : {y : Picked} → r ≡ Some y → MemberAt bs o place y.place y.member.quantifier y.member.what
+  as_member e = subst (Picks bs o place) e x.is
 
-  pub as_none : r ≡ pick.Absent → found_by false place (model_in bs o) ≡ none
-  as_none e = subst (λ (z : Picked). Picks bs o place z) e x.is
+  pub as_element : {y : Picked} {i : ℕ} → r ≡ Some y → y.member.what ≡ Element i → ElementAt bs o place y.place.holder y.place.particle y.member.quantifier
+  as_element {y} e w = subst (MemberAt bs o place y.place y.member.quantifier) w (as_member e)
 
--- ---- the first refusal, or the place
-module _ {cs : List Condition} {bs : Bytes} {o : ℕ} {insert : Bool} {place : List ℕ} {r : Located} {n : ℕ} (g : Gives n cs) where
-  pub refused_there : r.number ≡ n → 1 ≤ n → (r.number ≡ first cs) × Finds bs o insert place r
-  refused_there e l = (e ∙ g.is, record { found = λ z. absurd (omega (arith, e, z)) })
+  pub as_group : {y : Picked} {k : GroupKind} {n : ℕ} → r ≡ Some y → y.member.what ≡ Group k n → GroupAt bs o place y.place.holder y.place.particle y.member.quantifier k n
+  as_group {y} e w = subst (MemberAt bs o place y.place y.member.quantifier) w (as_member e)
 
-  pub located_there : {h : Holder} {p : ℕ} → r ≡ located_at n h p → Placed bs o insert place h p → (r.number ≡ first cs) × Finds bs o insert place r
-  located_there {h} {p} e x =
-      (ap (λ (z : Located). z.number) e ∙ g.is, subst (λ (z : Located). Finds bs o insert place z) (sym e) (record { found = λ z. x }))
+  pub as_none : r ≡ None → found_by false place (model_in bs o) ≡ none
+  as_none e = subst (Picks bs o place) e x.is

@@ -23,9 +23,9 @@ use Rattle.rules.proofs.Places.{found_gap, found_nth}
 use Rattle.rules.proofs.RenamingPlaces.{plug_rename, spine_rename}
 use Rattle.model.specs.declared.place.Holder.{Holder}
 use Rattle.model.specs.declared.place.Found.{Found}
-use Rattle.model.specs.declared.place.Found.TheVariants.{At, Absent}
+use Rattle.std.specs.Prelude.{Option as Maybe, Some, None}
 use Rattle.model.specs.Members.{index_members, particles_of, members_from, all_members}
-use Rattle.model.specs.Places.{Particles, top, spot_of, place_in, last_by, PlaceTold, told, shown}
+use Rattle.model.specs.Places.{Particles, leads_to, top, spot_of, place_in, last_by, PlaceTold, told, shown}
 use Rattle.model.specs.Positions.{spread, offset, holder, spot_in, leading, trailing, level}
 use Rattle.model.proofs.ParticleLaws.{length_particles}
 use Rattle.model.proofs.FindLaws.{found_placed}
@@ -95,9 +95,17 @@ abbrev spine_of : Option PlaceTold → Bool
 spine_of none = false
 spine_of (some t) = t.spine
 
-abbrev is_at : Found → Bool
-is_at Absent = false
-is_at (At h p) = true
+abbrev is_at : Maybe Found → Bool
+is_at None = false
+is_at (Some f) = true
+
+abbrev held_in : Maybe Found → Holder
+held_in None = top
+held_in (Some f) = f.holder
+
+abbrev stands_in : Maybe Found → ℕ
+stands_in None = 0
+stands_in (Some f) = f.particle
 
 module _ (bs : Bytes) (pass : passes bs ≡ true) (o : ℕ) (l : o < definition_count bs) where
   members_own : all_members (part_in bs o) ≡ rename (index_of_name bs) (model_in bs o)
@@ -113,7 +121,7 @@ module _ (bs : Bytes) (pass : passes bs ≡ true) (o : ℕ) (l : o < definition_
     spot_is = by (leb (length place) 5)
       where
         by : (b : Bool)
-            → ◌≡◌ {A = Found} (elim b [ true ↦ spot_of i place top (particles_of (part_in bs o)) | false ↦ Absent ])
+            → ◌≡◌ {A = Maybe Found} (elim b [ true ↦ spot_of i place top (particles_of (part_in bs o)) | false ↦ None ])
             (spot_in top (rename_found (index_of_name bs) (elim b [ true ↦ leads i place (model_in bs o) | false ↦ none ])))
         by true =
             ap (spot_of i place top) (own_particles bs pass o l)
@@ -134,7 +142,7 @@ module _ (bs : Bytes) (pass : passes bs ≡ true) (o : ℕ) (l : o < definition_
         by false = refl
 
     -- absent for both
-    pub absent : place_in i place (part_in bs o) ≡ Absent → found_by i place (model_in bs o) ≡ none
+    pub absent : place_in i place (part_in bs o) ≡ None → found_by i place (model_in bs o) ≡ none
     absent e = by (found_by i place (model_in bs o)) refl
       where
         by : (x : Option (Spot Bytes)) → found_by i place (model_in bs o) ≡ x → x ≡ none
@@ -142,7 +150,7 @@ module _ (bs : Bytes) (pass : passes bs ≡ true) (o : ℕ) (l : o < definition_
         by (some x) q = absurd (false≢true (sym (ap is_at e) ∙ ap is_at (spot_is ∙ ap (λ (z : Option (Spot Bytes)). spot_in top (rename_found (index_of_name bs) z)) q)))
 
     -- .. or there for both
-    module _ (h : Holder) (p : ℕ) (e : place_in i place (part_in bs o) ≡ At h p) where
+    module _ (h : Holder) (p : ℕ) (e : place_in i place (part_in bs o) ≡ leads_to h p) where
       module _ (x : Spot Bytes) (q : found_by i place (model_in bs o) ≡ some x) where
         abbrev context : Context ℕ
         context = rename_around (index_of_name bs) x.context
@@ -150,10 +158,10 @@ module _ (bs : Bytes) (pass : passes bs ≡ true) (o : ℕ) (l : o < definition_
         abbrev chosen : Members ℕ
         chosen = rename (index_of_name bs) x.picked
 
-        same_spot : At (holder top 0 context) (0 + offset context) ≡ At h p
+        same_spot : leads_to (holder top 0 context) (0 + offset context) ≡ leads_to h p
         same_spot = sym (spot_is ∙ ap (λ (z : Option (Spot Bytes)). spot_in top (rename_found (index_of_name bs) z)) q) ∙ e
 
-        same_told : shown (particles_of (part_in bs o)) (At h p) ≡ told Sequence true (some (record { context = context; picked = chosen }))
+        same_told : shown (particles_of (part_in bs o)) (leads_to h p) ≡ told Sequence true (some (record { context = context; picked = chosen }))
         same_told = ap (shown (particles_of (part_in bs o))) (sym e) ∙ shown_is ∙ ap (λ (z : Option (Spot Bytes)). told Sequence true (rename_found (index_of_name bs) z)) q
 
         own_spread : particles_of (part_in bs o) ≡ spread 0 (plug context chosen)
@@ -162,7 +170,7 @@ module _ (bs : Bytes) (pass : passes bs ≡ true) (o : ℕ) (l : o < definition_
             ∙ ap (spread 0) (plug_rename (index_of_name bs) x.context x.picked)
 
         stands_at : offset context ≡ p
-        stands_at = let z : 0 + offset context ≡ p = cc same_spot in omega arith
+        stands_at = let z : 0 + offset context ≡ p = ap stands_in same_spot in omega arith
 
         long : particle_size * p ≤ length (part_in bs o)
         long =
@@ -182,7 +190,7 @@ module _ (bs : Bytes) (pass : passes bs ≡ true) (o : ℕ) (l : o < definition_
               found = x;
               there = q;
               particles = own_spread;
-              held = cc same_spot;
+              held = ap held_in same_spot;
               stands = stands_at;
               inside = long;
               kind = ap (kind_of Sequence) same_told ∙ kind_rename (index_of_name bs) Sequence x.context;

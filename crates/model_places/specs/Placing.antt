@@ -1,9 +1,10 @@
 -- What a place leads to in the part of a definition.
-use Rattle.std.specs.Prelude.{ℕ, ◌*◌, ◌≤◌, ◌≡◌, Bool, true, false, List, leb, length, drop}
+use Rattle.std.specs.Prelude.{ℕ, ◌*◌, ◌≤◌, ◌≡◌, Bool, true, false, List, leb, length, drop, Option as Maybe, Some, None, Result, Ok, Err}
 use Rattle.std.proofs.Math.Option.{Option, none, some}
 use Rattle.rules.specs.declared.Quantifier.{Quantifier}
 use Rattle.rules.specs.declared.GroupKind.{GroupKind}
 use Rattle.rules.specs.declared.GroupKind.TheVariants.{Sequence}
+use Rattle.rules.specs.declared.Refusal.{Refusal}
 use Rattle.rules.specs.Bytes.{Bytes}
 use Rattle.rules.specs.Model.{Members, el, group, rename}
 use Rattle.rules.specs.Store.{members}
@@ -11,18 +12,16 @@ use Rattle.rules.specs.Layout.{particle_size, index_of, how_many}
 use Rattle.rules.specs.Place.{Found as Spot, gap, nth, find, plug, kind_at, spine, rename_around}
 use Rattle.rules.specs.Change.{definition_at}
 use Rattle.model.specs.declared.What.{What}
-use Rattle.model.specs.declared.What.TheVariants as what
+use Rattle.model.specs.declared.What.TheVariants.{Element, Group}
 use Rattle.model.specs.declared.place.Holder.{Holder}
 use Rattle.model.specs.Members.{particles_of, members_from}
-use Rattle.model.specs.declared.place.Found.TheVariants.{At}
-use Rattle.model.specs.Places.{top, place_in}
+use Rattle.model.specs.declared.place.Found.{Found}
+use Rattle.model.specs.Places.{top, leads_to, place_in}
 use Rattle.model.specs.Positions.{spread, offset, holder}
 use Rattle.form_index.specs.Reading.{model_part}
 use Rattle.layout.specs.Bodies.{definitions_in, particles_in}
 use Rattle.store_laws.specs.Stores.{store_in}
-use Rattle.model_places.specs.declared.Located.{Located}
 use Rattle.model_places.specs.declared.Picked.{Picked}
-use Rattle.model_places.specs.declared.Picked.TheVariants as pick
 
 -- the index of a name
 abbrev pub index_of_name : Bytes → Bytes → ℕ
@@ -46,7 +45,7 @@ found_by insert place ms = elim (leb (length place) 5) [ true ↦ leads insert p
 -- THE PLACE: in the part of definition o the code finds the list h and
 -- the particle p in it, the rules `found` in its model
 pub record Placed (bs : Bytes) (o : ℕ) (insert : Bool) (place : List ℕ) (h : Holder) (p : ℕ) : Type 0 where
-  pub at : place_in insert place (part_in bs o) ≡ At h p
+  pub at : place_in insert place (part_in bs o) ≡ leads_to h p
   pub found : Spot Bytes
   pub there : found_by insert place (model_in bs o) ≡ some found
   pub particles : particles_of (part_in bs o) ≡ spread 0 (plug (rename_around (index_of_name bs) found.context) (rename (index_of_name bs) found.picked))
@@ -56,10 +55,6 @@ pub record Placed (bs : Bytes) (o : ℕ) (insert : Bool) (place : List ℕ) (h :
   pub kind : h.kind ≡ kind_at Sequence found.context
   pub spine : h.spine ≡ spine found.context
   pub picked : members_from h.depth (drop (particle_size * p) (part_in bs o)) ≡ rename (index_of_name bs) found.picked
-
-abbrev pub pick_of : Holder → ℕ → Quantifier → What → Picked
-pick_of h p q (what.Element i) = pick.Element h p q
-pick_of h p q (what.Group k n) = pick.Group h p q k n
 
 pub record ElementAt (bs : Bytes) (o : ℕ) (place : List ℕ) (h : Holder) (p : ℕ) (q : Quantifier) : Type 0 where
   pub placed : Placed bs o false place h p
@@ -75,20 +70,22 @@ pub record GroupAt (bs : Bytes) (o : ℕ) (place : List ℕ) (h : Holder) (p : �
   pub is : placed.found.picked ≡ group q k inner rest
   pub many : n ≡ how_many inner
 
-abbrev pub Picks : Bytes → ℕ → List ℕ → Picked → Type 0
-Picks bs o place (pick.Element h p q) = ElementAt bs o place h p q
-Picks bs o place (pick.Group h p q k n) = GroupAt bs o place h p q k n
-Picks bs o place pick.Absent = found_by false place (model_in bs o) ≡ none
+-- the one or the other
+abbrev pub MemberAt : Bytes → ℕ → List ℕ → Found → Quantifier → What → Type 0
+MemberAt bs o place f q (Element i) = ElementAt bs o place f.holder f.particle q
+MemberAt bs o place f q (Group k n) = GroupAt bs o place f.holder f.particle q k n
 
-pub record Picking (bs : Bytes) (o : ℕ) (place : List ℕ) (r : Picked) : Type 0 where
+abbrev pub Picks : Bytes → ℕ → List ℕ → Maybe Picked → Type 0
+Picks bs o place (Some x) = MemberAt bs o place x.place x.member.quantifier x.member.what
+Picks bs o place None = found_by false place (model_in bs o) ≡ none
+
+pub record Picking (bs : Bytes) (o : ℕ) (place : List ℕ) (r : Maybe Picked) : Type 0 where
   pub is : Picks bs o place r
 
-abbrev pub located_at : ℕ → Holder → ℕ → Located
-located_at n h p = record { number = n; holder = h; particle = p }
-
 -- THE PLACE FOUND ONCE: where no refusal applies, the place that a call goes on with
-pub record Finds (bs : Bytes) (o : ℕ) (insert : Bool) (place : List ℕ) (r : Located) : Type 0 where
-  pub found : r.number ≡ 0 → Placed bs o insert place r.holder r.particle
+abbrev pub Finds : Bytes → ℕ → Bool → List ℕ → Result Found Refusal → Type 0
+Finds bs o insert place (Ok f) = Placed bs o insert place f.holder f.particle
+Finds bs o insert place (Err e) = Unit {0}
 
 abbrev pub one_if : Bool → ℕ
 one_if true = 1

@@ -3,6 +3,7 @@
 
 ghost use Rattle.std.specs.Prelude.{◌≡◌, true, false};
 ghost use Rattle.rules.specs.Quantifiers.{many, gains, cuts};
+ghost use Rattle.rules.specs.Given.{number_given};
 ghost use Rattle.rules.specs.Passing.{passes};
 ghost use Rattle.rules.specs.Refusal.{first, conditions};
 ghost use Rattle.store_laws.specs.Stores.{store_in};
@@ -11,18 +12,14 @@ ghost use Rattle.instance_search.specs.Instances.{has_instance};
 ghost use Rattle.model_places.specs.Placing.{Finds};
 ghost use Rattle.quantifier_refusals.specs.Requantifying.{is_off, early_tests, quantifier_tests, requantify};
 
-use model_places::{Located, Picked};
-use rules::Quantifier;
+use model::What;
+use model::place::Found;
+use rules::{Quantifier, Refusal};
 
 fn many(q: Quantifier) -> bool
     ensures { result ≡ many q }
 {
-    match q {
-        Quantifier::None => false,
-        Quantifier::Qmark => false,
-        Quantifier::Star => true,
-        Quantifier::Plus => true,
-    }
+    matches!(q, Quantifier::Star | Quantifier::Plus)
 }
 
 /// Whether a new quantifier gains.
@@ -47,20 +44,20 @@ fn is_off(spine: bool, old: Quantifier, new: Quantifier, group: bool) -> bool
 }
 
 // Refusals 3, 4 and 6 of a new quantifier.
-fn early_refusal(store: &[u8], owner: u32, quantifier: u32, text: &[u8]) -> u32
-    ensures { Gives result (early_tests owner quantifier text.now store.now) }
+fn early_refusal(store: &[u8], owner: u32, quantifier: u32, text: &[u8]) -> Result<(), Refusal>
+    ensures { Gives (number_given result) (early_tests owner quantifier text.now store.now) }
 {
     let w = layout::width_in(store);
     if !records::is_value(w, text) {
-        return 3;
+        return Err(Refusal::BadValue);
     }
     if quantifier > 3 {
-        return 4;
+        return Err(Refusal::BadCode);
     }
     if owner as usize >= layout::definition_count(store) {
-        return 6;
+        return Err(Refusal::Unknown);
     }
-    0
+    Ok(())
 }
 
 // Refusals 12 and 13 of a new quantifier.
@@ -72,16 +69,16 @@ fn quantifier_at(
     new: Quantifier,
     text: &[u8],
     group: bool,
-) -> u32
-    ensures { Gives result (quantifier_tests (has_instance store.now owner) spine old new text.now group) }
+) -> Result<(), Refusal>
+    ensures { Gives (number_given result) (quantifier_tests (has_instance store.now owner) spine old new text.now group) }
 {
-    if gains(old, new) & (text.len() == 0) {
-        return 12;
+    if gains(old, new) & text.is_empty() {
+        return Err(Refusal::Default);
     }
     if !is_off(spine, old, new, group) {
-        return 0;
+        return Ok(());
     }
-    instance_search::instance_refusal(store, owner, 13)
+    instance_search::instance_refusal(store, owner, Refusal::OffSpine)
 }
 
 /// Refusals 3, 4, 6, 8, 12 and 13 of the change of the quantifier of a group, or else of an element; or the place.
@@ -92,32 +89,17 @@ pub fn requantify_refusal(
     quantifier: u32,
     text: &[u8],
     group: bool,
-) -> Located
+) -> Result<Found, Refusal>
     requires { passes store.now ≡ true }
-    ensures { (result.number ≡ first (conditions (requantify group owner place.now quantifier text.now) (store_in store.now)))
+    ensures { (number_given result ≡ first (conditions (requantify group owner place.now quantifier text.now) (store_in store.now)))
         × Finds store.now owner false place.now result }
 {
-    let early = early_refusal(store, owner, quantifier, text);
-    if early != 0 {
-        return model_places::refused(early);
-    }
+    early_refusal(store, owner, quantifier, text)?;
     let new = Quantifier::from(quantifier as u8);
-    let x = model_places::pick(store, owner, place);
-    match x {
-        Picked::Element(h, p, old) => {
-            if group {
-                return model_places::refused(8);
-            }
-            let number = quantifier_at(store, owner, h.spine, old, new, text, false);
-            model_places::at_place(number, h, p)
-        }
-        Picked::Group(h, p, old, _, _) => {
-            if !group {
-                return model_places::refused(8);
-            }
-            let number = quantifier_at(store, owner, h.spine, old, new, text, true);
-            model_places::at_place(number, h, p)
-        }
-        Picked::Absent => model_places::refused(8),
+    let x = model_places::pick(store, owner, place).ok_or(Refusal::NoPlace)?;
+    if group != matches!(x.member.what, What::Group(_, _)) {
+        return Err(Refusal::NoPlace);
     }
+    quantifier_at(store, owner, x.place.holder.spine, x.member.quantifier, new, text, group)?;
+    Ok(x.place)
 }

@@ -4,6 +4,7 @@
 ghost use Rattle.std.specs.Prelude.{◌≡◌, true, false, ◌≤◌};
 ghost use Rattle.rules.specs.declared.GroupKind.TheVariants.{Choice};
 ghost use Rattle.rules.specs.Model.{nothing};
+ghost use Rattle.rules.specs.Given.{number_given};
 ghost use Rattle.rules.specs.Passing.{passes};
 ghost use Rattle.rules.specs.Change.{remove_element};
 ghost use Rattle.rules.specs.Refusal.{first, conditions};
@@ -14,9 +15,9 @@ ghost use Rattle.instance_search.specs.Instances.{has_instance};
 ghost use Rattle.model_places.specs.Placing.{Finds};
 ghost use Rattle.remove_refusals.specs.Removing.{choice_left, Removable, remove_tests};
 
-use model::place::Holder;
-use model_places::{Located, Picked};
-use rules::GroupKind;
+use model::What;
+use model::place::{Found, Holder};
+use rules::{GroupKind, Refusal};
 
 // Whether a CHOICE of the members of depth d that s begins with accepts nothing.
 fn accepts_nothing(s: &[u8], d: usize) -> bool
@@ -45,42 +46,36 @@ fn choice_left(part: &[u8], start: usize, p: usize, d: usize) -> bool
 }
 
 // Refusals 14 and 15 of the element at particle p of the list h.
-fn remove_at(store: &[u8], owner: u32, part: &[u8], h: Holder, p: usize) -> u32
+fn remove_at(store: &[u8], owner: u32, part: &[u8], h: Holder, p: usize) -> Result<(), Refusal>
     requires { Removable part.now h p }
-    ensures { Gives result (remove_tests (has_instance store.now owner) part.now h p) }
+    ensures { Gives (number_given result) (remove_tests (has_instance store.now owner) part.now h p) }
 {
     let from = layout::particles_from(part, p);
     let d = layout::particle_depth(from) as usize;
     let n = model_places::count_members(from, d);
     if (d > 0) & (p == h.start) & (n == 1) {
-        return 14;
+        return Err(Refusal::Grouping);
     }
-    let list = h.kind;
-    if model_places::same_kind(list, GroupKind::Sequence) {
-        return 0;
+    if h.kind == GroupKind::Sequence || choice_left(part, h.start, p, d) {
+        return Ok(());
     }
-    if choice_left(part, h.start, p, d) {
-        return 0;
-    }
-    instance_search::instance_refusal(store, owner, 15)
+    instance_search::instance_refusal(store, owner, Refusal::NoMatch)
 }
 
 /// Refusals 6, 8, 14 and 15 of the change that removes an element, or the place.
-pub fn remove_element_refusal(store: &[u8], owner: u32, place: &[u32]) -> Located
+pub fn remove_element_refusal(store: &[u8], owner: u32, place: &[u32]) -> Result<Found, Refusal>
     requires { passes store.now ≡ true }
-    ensures { (result.number ≡ first (conditions (remove_element owner place.now) (store_in store.now))) × Finds store.now owner false place.now result }
+    ensures { (number_given result ≡ first (conditions (remove_element owner place.now) (store_in store.now)))
+        × Finds store.now owner false place.now result }
 {
     if owner as usize >= layout::definition_count(store) {
-        return model_places::refused(6);
+        return Err(Refusal::Unknown);
     }
     let part = model_places::own_part(store, owner as usize);
-    let x = model_places::pick(store, owner, place);
-    match x {
-        Picked::Element(h, p, _) => {
-            let number = remove_at(store, owner, part, h, p);
-            model_places::at_place(number, h, p)
-        }
-        Picked::Group(_, _, _, _, _) => model_places::refused(8),
-        Picked::Absent => model_places::refused(8),
+    let x = model_places::pick(store, owner, place).ok_or(Refusal::NoPlace)?;
+    if let What::Group(_, _) = x.member.what {
+        return Err(Refusal::NoPlace);
     }
+    remove_at(store, owner, part, x.place.holder, x.place.particle)?;
+    Ok(x.place)
 }

@@ -1,7 +1,6 @@
--- `model_places::pick` meets its contract: the case split is on what `find` gives: if absent, the place leads to
--- nothing in the model (`picked_none` of PickLaws); if present, its particle is within the part (`picked_inside`), and
--- what is read there is what the place leads to (`picked_there`); the owner is bounded by `whole` of StoreFacts in
--- `store_check`.
+-- `model_places::pick` meets its contract: where `find` gives nothing, the place leads to nothing in the model
+-- (`picked_none` of PickLaws); else its particle is within the part (`picked_inside`), and what is read there is what
+-- the place leads to (`picked_there`); the owner is bounded by `whole` of StoreFacts in `store_check`.
 use Rattle.model_places.proofs.PickLaws.{picked_none, picked_inside, picked_there}
 use native.Mathlib.Omega.{arith}
 use Rattle.store_check.proofs.StoreFacts.{whole}
@@ -12,20 +11,20 @@ pub own_part-part-requires : goal.own_part-part-requires
 own_part-part-requires c =
     omega (arith, c.requires.1, (whole c.args.store.now c.requires.0).few_definitions)
 
-pub pick_at-requires : goal.pick_at-requires
-pick_at-requires c =
+pub returns-in_err-place : goal.returns-in_err-place
+returns-in_err-place c =
     let a = c.args in
-    picked_inside a.store.now c.requires.0 a.owner c.requires.1 a.place.now c.own_part-part.ensures c.find-found.ensures _ _
-    c.in-At.is
+    rw c.from_residual.ensures
+    (picked_none a.store.now c.requires.0 a.owner c.requires.1 a.place.now c.own_part-part.ensures c.find.ensures c.in_err-place.was)
 
-pub returns-in-Absent : goal.returns-in-Absent
-returns-in-Absent c =
+pub particles_from-requires : goal.particles_from-requires
+particles_from-requires c =
     let a = c.args in
-    picked_none a.store.now c.requires.0 a.owner c.requires.1 a.place.now c.own_part-part.ensures c.find-found.ensures
-    c.in-Absent.is
+    let low = picked_inside a.store.now c.requires.0 a.owner c.requires.1 a.place.now c.own_part-part.ensures c.find.ensures _ c.in_ok-place.was in
+    omega (arith, low)
 
-pub returns-in-At : goal.returns-in-At
-returns-in-At c =
+pub returns : goal.returns
+returns c =
     let a = c.args in
-    picked_there a.store.now c.requires.0 a.owner c.requires.1 a.place.now c.own_part-part.ensures c.find-found.ensures _ _
-    c.in-At.is c.pick_at.ensures
+    picked_there a.store.now c.requires.0 a.owner c.requires.1 a.place.now c.own_part-part.ensures c.find.ensures _
+    c.in_ok-place.was c.particles_from.ensures c.read_particle-member.ensures

@@ -3,56 +3,52 @@
 -- call is for a place shorter by one number and a part within s (`entered_part`).
 use mathlib.Core.Path.{ap, ◌∙◌}
 use native.Mathlib.Omega.{arith}
-use borrow.Author.Rules.{rules}
 use lib.ListN.{length, take, drop, get_or, length-take, length-drop}
 use Rattle.codec.proofs.Strings.{part_length}
 use Rattle.model.specs.Members.{particles_of}
 use Rattle.model.specs.Places.{Particles, spot_of}
 use Rattle.model.proofs.ParticleLaws.{particles_part}
 use Rattle.model.proofs.EnteringLaws.{place_none, place_last, place_out, place_in_lem, entered_part}
-use Prim.Native.Nat.{ℕ, ◌<◌, ◌-◌, ◌*◌}
+use Prim.Native.Nat.{◌-◌, ◌*◌}
 use Rattle.rules.specs.Layout.{particle_size}
 use Rattle.place_lookup.proofs.+find_in.Goals as goal
 
-pub returns-then-place-eq0 : goal.returns-then-place-eq0
-returns-then-place-eq0 t c =
-    place_none _ _ _ c.args.place.now c.if-place-eq0.true
+pub returns-in-empty : goal.returns-in-empty
+returns-in-empty t c = place_none _ _ _ c.args.place.now (omega arith)
 
-pub overflow_cast-n : goal.overflow_cast-n
-overflow_cast-n t c = omega (arith, c.shared_slice_known-3-1.given 0)
+pub returns-in-len1 : goal.returns-in-len1
+returns-in-len1 t c = place_last _ _ _ c.args.place.now _ (omega arith) c.last_of.ensures
 
-pub returns-then-place-eq1 : goal.returns-then-place-eq1
-returns-then-place-eq1 t c =
-    place_last _ _ _ c.args.place.now _ c.if-place-eq1.true c.last_of.ensures
+pub returns-in_err-group-in-len1-up : goal.returns-in_err-group-in-len1-up
+returns-in_err-group-in-len1-up t c =
+    rw c.from_residual.ensures (place_out _ _ _ _ c.args.place.now (λ z. omega arith) (λ z. omega arith) c.enter.ensures c.in_err-group-in-len1-up.was)
 
-pub overflow_mul-from : goal.overflow_mul-from
-overflow_mul-from t c =
+pub overflow_mul-group : goal.overflow_mul-group
+overflow_mul-group t c =
     let a = c.args in
-    let q = entered_part a.h a.s.now (get_or a.place.now 0 0) _ _ _ _ c.enter-e.ensures c.in-Inside.is in
+    let q = entered_part a.h a.s.now (get_or a.place.now 0 0) _ _ c.enter.ensures c.in_ok-group-in-len1-up.was in
     omega (arith, q.room)
 
-pub overflow_mul-size : goal.overflow_mul-size
-overflow_mul-size t c =
+pub overflow_mul-group-in-len1-up : goal.overflow_mul-group-in-len1-up
+overflow_mul-group-in-len1-up t c =
     let a = c.args in
-    let q = entered_part a.h a.s.now (get_or a.place.now 0 0) _ _ _ _ c.enter-e.ensures c.in-Inside.is in
+    let q = entered_part a.h a.s.now (get_or a.place.now 0 0) _ _ c.enter.ensures c.in_ok-group-in-len1-up.was in
     omega (arith, q.room)
 
 pub find_in-requires : goal.find_in-requires
 find_in-requires t c =
     let a = c.args in
-    let q = entered_part a.h a.s.now (get_or a.place.now 0 0) _ _ _ _ c.enter-e.ensures c.in-Inside.is in
-    let l = part_length (particle_size * c.in-Inside.from) (particle_size * c.in-Inside.size) a.s.now _ q.room c.part.ensures in
-    omega (arith, q.start, q.deep, q.room, l, length-take (length a.place.now - 1) (drop 1 a.place.now), length-drop 1 a.place.now, c.if-place-eq0.false)
+    let g = c.in_ok-group-in-len1-up.group in
+    let q = entered_part a.h a.s.now (get_or a.place.now 0 0) _ _ c.enter.ensures c.in_ok-group-in-len1-up.was in
+    let l = part_length (particle_size * g.from) (particle_size * g.size) a.s.now _ q.room c.part-part.ensures in
+    omega (arith, q.start, q.deep, q.room, l, length-take (length a.place.now - 1) (drop 1 a.place.now), length-drop 1 a.place.now)
 
-pub returns-in-Outside : goal.returns-in-Outside
-returns-in-Outside t c =
-    place_out _ _ _ _ c.args.place.now c.if-place-eq0.false c.if-place-eq1.false c.enter-e.ensures c.in-Outside.is
-
-pub returns-in-Inside : goal.returns-in-Inside
-returns-in-Inside t c =
+pub returns-in_ok-group-in-len1-up : goal.returns-in_ok-group-in-len1-up
+returns-in_ok-group-in-len1-up t c =
     let a = c.args in
-    let q = entered_part a.h a.s.now (get_or a.place.now 0 0) _ _ _ _ c.enter-e.ensures c.in-Inside.is in
-    place_in_lem _ _ _ _ a.place.now _ _ _ _ c.if-place-eq0.false c.if-place-eq1.false c.enter-e.ensures c.in-Inside.is
+    let g = c.in_ok-group-in-len1-up.group in
+    let q = entered_part a.h a.s.now (get_or a.place.now 0 0) _ _ c.enter.ensures c.in_ok-group-in-len1-up.was in
+    place_in_lem _ _ _ _ a.place.now _ _ (λ z. omega arith) (λ z. omega arith) c.enter.ensures c.in_ok-group-in-len1-up.was
     (c.find_in.ensures
-    ∙ ap (λ (xs : Particles). spot_of a.insert (take (length a.place.now - 1) (drop 1 a.place.now)) c.in-Inside.g xs)
-    (ap particles_of c.part.ensures ∙ particles_part _ _ a.s.now q.room))
+    ∙ ap (λ (xs : Particles). spot_of a.insert (take (length a.place.now - 1) (drop 1 a.place.now)) g.list xs)
+    (ap particles_of c.part-part.ensures ∙ particles_part _ _ a.s.now q.room))

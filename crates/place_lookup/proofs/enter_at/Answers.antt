@@ -3,14 +3,13 @@
 -- (`enter_group_lem`).
 use native.Mathlib.Omega.{arith}
 use Rattle.model.proofs.EnteringLaws.{enter_element, enter_group_lem}
-use borrow.Author.Rules.{rules}
 use Rattle.place_lookup.proofs.enter_at.Goals as goal
 
-pub returns-in-Element : goal.returns-in-Element
-returns-in-Element c =
-    enter_element c.args.h c.args.p c.args.s.now _ (omega arith) c.read_particle-x.ensures _ c.in-Element.is
+pub returns-in_default : goal.returns-in_default
+returns-in_default c =
+    enter_element c.args.h c.args.p c.args.s.now _ (omega arith) c.read_particle-x.ensures c.in_default.not-Group
 
-pub returns-in-Group : goal.returns-in-Group
-returns-in-Group c =
+pub returns : goal.returns
+returns c =
     enter_group_lem c.args.h c.args.p c.args.s.now _ (omega arith) c.read_particle-x.ensures _ _ _ _
     c.in-Group.is c.span-size.ensures c.plain.ensures

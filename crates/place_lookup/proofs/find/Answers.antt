@@ -2,7 +2,6 @@
 -- EnteringLaws), and any other where `find_in` finds it from the top list on (`place_short`).
 use native.Mathlib.Omega.{arith}
 use Rattle.model.proofs.EnteringLaws.{place_long, place_short}
-use borrow.Author.Rules.{rules}
 use Rattle.place_lookup.proofs.find.Goals as goal
 
 pub returns-then-place-gt5 : goal.returns-then-place-gt5

@@ -2,14 +2,10 @@
 -- `left_few` of PlacesLaws). One of depth d is the member where m is 0 (`left_member`), else it is passed and counted
 -- (`left_pass`). A deeper one is passed (`left_deeper`).
 use mathlib.Core.Path.{◌∙◌}
-use mathlib.Core.Logic.{⊎_elim}
 use Prim.Native.Nat.{◌-◌}
 use native.Mathlib.Omega.{arith}
-use borrow.Author.Rules.{rules}
 use lib.ListN.{length, drop, length-take, length-drop}
-use Rattle.model.specs.Members.{particles_of}
-use Rattle.model.specs.Places.{reach}
-use Rattle.model.proofs.PlacesLaws.{Left, left_all, left_few, left_stop, left_member, left_pass, left_deeper}
+use Rattle.model.proofs.PlacesLaws.{left_all, left_few, left_stop, left_member, left_pass, left_deeper}
 use Rattle.rules.specs.Layout.{particle_size}
 use Rattle.place_lookup.proofs.reach.Goals as goal
 use Rattle.place_lookup.proofs.reach.Goals.{then-depth-d-2+else-m-eq0, else-depth-d-2}

@@ -2,11 +2,8 @@
 -- `deeper_few` of PlacesLaws), and a deeper one is counted (`deeper_on`).
 use Prim.Native.Nat.{◌-◌}
 use native.Mathlib.Omega.{arith}
-use borrow.Author.Rules.{rules}
 use lib.ListN.{length, drop, length-take, length-drop}
-use Rattle.model.specs.Members.{particles_of}
-use Rattle.model.specs.Places.{span_of}
-use Rattle.model.proofs.PlacesLaws.{Deeper, deeper_all, deeper_few, deeper_stop, deeper_on}
+use Rattle.model.proofs.PlacesLaws.{deeper_all, deeper_few, deeper_stop, deeper_on}
 use Rattle.rules.specs.Layout.{particle_size}
 use Rattle.place_lookup.proofs.span.Goals as goal
 

@@ -1,11 +1,7 @@
-use Prim.Native.Nat.{◌-◌}
-use native.Mathlib.Omega.{arith}
-use borrow.Author.Rules.{rules}
-use lib.ListN.{length, drop, length-take, length-drop}
+use lib.ListN.{length}
 use Rattle.model.specs.Members.{particles_of}
 use Rattle.model.specs.Places.{span_of}
-use Rattle.model.proofs.PlacesLaws.{Deeper, deeper_all, deeper_few, deeper_stop, deeper_on}
-use Rattle.rules.specs.Layout.{particle_size}
+use Rattle.model.proofs.PlacesLaws.{Deeper}
 use Rattle.place_lookup.proofs.span.Given as goal
 
 -- The loop's invariant: n deeper particles are passed; with those that what is left, t, begins with they make up the

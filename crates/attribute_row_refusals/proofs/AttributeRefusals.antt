@@ -1,11 +1,14 @@
 -- The conditions of 14 and 15: what the code finds, put together.
 use Prim.Native.Nat.{ℕ, suc, ◌<◌, ◌≤◌}
 use native.Mathlib.Omega.{arith}
-use borrow.Author.Tests.{eq-eqb, ne_eqb, not-false}
+use borrow.Author.Tests.{eq-eqb, not-false}
 use mathlib.Core.Path.{◌≡◌, refl, sym, ap, ap₂, ◌∙◌, subst}
 use mathlib.Core.Logic.{⊎_elim}
 use mathlib.Core.Bool.{Bool, true, false, ◌&&◌, ◌||◌, not, false≢true, not-not}
-use mathlib.Core.Option.{Option, none, some, some-injective}
+use mathlib.Core.Option as maybe
+use mathlib.Core.Option.{none, some, some-injective}
+use Rattle.std.specs.Option as option
+use Rattle.std.specs.Prelude.{Option, None, Some, slice_get, unwrap_or}
 use mathlib.Core.List.Memᴰ
 use mathlib.Core.List.{List, [], ◌∷◌, map, Memᴰ}
 use lib.Dec.{eqb}
@@ -24,7 +27,7 @@ use Rattle.change_laws.proofs.RowEdits.{row_serial, keep}
 use Rattle.rules.proofs.Apart.{differs}
 use Rattle.change_laws.proofs.Rowwise.{Standing}
 use Rattle.change_laws.proofs.FormLaws.{attribute_owned, owner_found, owner_at_lem, owner_below}
-use Rattle.change_laws.proofs.StandingLaws.{standing_every, found_element, children_are, children_given}
+use Rattle.change_laws.proofs.StandingLaws.{standing_every, found_element, children_are}
 use Rattle.form_index.specs.Indices.{IndexForm}
 use Rattle.layout.specs.Bodies.{width_of, WidthIn, attributes_in}
 use Rattle.form_index.specs.Reading.{attribute_in, by_index}
@@ -40,26 +43,27 @@ use Rattle.attribute_row_refusals.specs.Refused.{AttributeRefused}
 use Rattle.document_rows.specs.Finding.{row_in, children_at}
 use Rattle.change_laws.specs.FirstCondition.{Gives}
 use Rattle.document_rows.proofs.TreeLaws.{of_sort}
+use Rattle.document_rows.proofs.RowFacts.{serial_or_none}
 use Rattle.store_check.proofs.StoreFacts.{form_in, docs_in, Whole, bad_text_lem, fine_text}
 use Rattle.document_rows.proofs.ElementFacts.{Element, NoElement, defined, children_at_lem, any_found, element_conforms}
 use Rattle.document_refusals.proofs.ElementsAfter.{ok}
 use Rattle.attribute_row_refusals.proofs.AttributesAfter.{drop_conforms, set_conforms}
 use Rattle.change_laws.proofs.FirstCondition.{gives_hit, gives_next, gives_none}
 use Rattle.store_check.proofs.AttributeOwners.{owned, unowned}
-use Rattle.change_laws.proofs.InstanceRows.{keep_no, keep_yes, keep_in}
+use Rattle.change_laws.proofs.InstanceRows.{keep_no, keep_yes}
 use Rattle.rules.proofs.ConformingLaws.{is_element_lem}
 use Rattle.layout.specs.Fields.{version_at}
 
-serial_this : (a : ℕ) (r : FlatRow) (rs : List FlatRow) → eqb r.index a ≡ true → flat.serial_of_index a (r ∷ rs) ≡ r.serial
+serial_this : (a : ℕ) (r : FlatRow) (rs : List FlatRow) → eqb r.index a ≡ true → flat.serial_of_index a (r ∷ rs) ≡ Some r.serial
 serial_this a r rs e = rw (e, flat.serial_of_index)
 
 serial_next : (a : ℕ) (r : FlatRow) (rs : List FlatRow) → eqb r.index a ≡ false → flat.serial_of_index a (r ∷ rs) ≡ flat.serial_of_index a rs
 serial_next a r rs e = rw (e, flat.serial_of_index)
 
--- none stands just where the first has serial 0
-counted : (rows : List Row) → ((r : Row) → Memᴰ r rows → r.serial ≡ 0 → ⊥) → is_none (map row_serial rows) ≡ eqb (serial_at 0 (map row_serial rows)) 0
-counted [] f = refl
-counted (r ∷ rows) f = sym (ne_eqb r.serial 0 (f r (Memᴰ.head refl)))
+-- none stands just where there is no first
+no_first : (ss : List ℕ) → is_none ss ≡ option.is_none (slice_get ss 0)
+no_first [] = refl
+no_first (k ∷ ss) = refl
 
 unmet : (x y : Bool) (n : ℕ) → n ≡ first ((6 if x) ∷ (7 if y) ∷ []) → n ≡ 0 → (x ≡ false) × (y ≡ false)
 unmet true y n e h = absurd (omega arith)
@@ -132,7 +136,7 @@ module _ (bs : Bytes) (w : Whole bs) (a : ℕ) where
         -- ---- its row
         row_here : (rows : List Row)
             → flat.serial_of_index a (map (row_written (form_in bs) f.row.name) (keep (of_sort (form_in bs) 2) rows))
-            ≡ serial_at 0 (map row_serial (keep (attribute_named o.attribute.name) rows))
+            ≡ slice_get (map row_serial (keep (attribute_named o.attribute.name) rows)) 0
         unfolding keep
         row_here [] = refl
         row_here (r ∷ rows) = by r.sort refl (same o.attribute.name r.name) refl (row_here rows)
@@ -142,11 +146,11 @@ module _ (bs : Bytes) (w : Whole bs) (a : ℕ) where
                 ap (λ (z : ℕ). eqb z a) (index_written (form_in bs) f.row.name r q ∙ ap (λ (z : Bytes). attribute_index z r.name (form_in bs)) (sym e))
                 ∙ name_index a (form_in bs) o w.good.form.names apart at r.name
 
-            Flat : List Row → ℕ
+            Flat : List Row → Option ℕ
             Flat l = flat.serial_of_index a (map (row_written (form_in bs) f.row.name) l)
 
-            Named : List Row → ℕ
-            Named l = serial_at 0 (map row_serial l)
+            Named : List Row → Option ℕ
+            Named l = slice_get (map row_serial l) 0
 
             past : of_sort (form_in bs) 2 r ≡ false → attribute_named o.attribute.name r ≡ false → Flat (keep (of_sort (form_in bs) 2) rows) ≡ Named (keep (attribute_named o.attribute.name) rows)
                 → Flat (keep (of_sort (form_in bs) 2) (r ∷ rows)) ≡ Named (keep (attribute_named o.attribute.name) (r ∷ rows))
@@ -171,23 +175,20 @@ module _ (bs : Bytes) (w : Whole bs) (a : ℕ) where
             ap (λ (z : ℕ). children_of (attribute_named o.attribute.name) z (rows_of (store_in bs))) (sym f.serial)
             ∙ children_are (store_in bs).next (docs_in bs) w.good.serials (attribute_named o.attribute.name) f.row f.below f.stands
 
-        row_serial_lem : flat.serial_of_index a (children_at bs 2 i) ≡ serial_at 0 (children_of (attribute_named o.attribute.name) k (rows_of (store_in bs)))
-        row_serial_lem = ap (flat.serial_of_index a) (children_at_lem bs w k i f 2) ∙ row_here (heads f.below) ∙ sym (ap (serial_at 0) rows_are)
+        row_serial_lem : flat.serial_of_index a (children_at bs 2 i) ≡ slice_get (children_of (attribute_named o.attribute.name) k (rows_of (store_in bs))) 0
+        row_serial_lem = ap (flat.serial_of_index a) (children_at_lem bs w k i f 2) ∙ row_here (heads f.below) ∙ sym (ap (λ (l : List ℕ). slice_get l 0) rows_are)
 
-        pub serial_is : {r : ℕ} → r ≡ flat.serial_of_index a (children_at bs 2 i) → r ≡ attribute_serial k a (store_in bs)
-        serial_is q = q ∙ row_serial_lem ∙ sym (ap (λ (z : Option Owned). elim z as (λ y. ℕ) [
+        pub serial_is : {r : Option ℕ} → r ≡ flat.serial_of_index a (children_at bs 2 i) → unwrap_or r 0 ≡ attribute_serial k a (store_in bs)
+        serial_is q = ap (λ (n : Option ℕ). unwrap_or n 0) (q ∙ row_serial_lem) ∙ serial_or_none 0 (children_of (attribute_named o.attribute.name) k (rows_of (store_in bs))) ∙ sym (ap (λ (z : maybe.Option Owned). elim z as (λ y. ℕ) [
           | none ↦ 0
           | some o ↦ serial_at 0 (children_of (attribute_named o.attribute.name) k (rows_of (store_in bs)))
         ])
             at)
 
-        absent_is : {r : ℕ} → r ≡ flat.serial_of_index a (children_at bs 2 i) → is_absent k (rows_of (store_in bs)) (attribute_at a (form_in bs)) ≡ eqb r 0
+        absent_is : {r : Option ℕ} → r ≡ flat.serial_of_index a (children_at bs 2 i) → is_absent k (rows_of (store_in bs)) (attribute_at a (form_in bs)) ≡ option.is_none r
         absent_is {r} q =
-            ap (is_absent k (rows_of (store_in bs))) at ∙ ap is_none rows_are
-            ∙ counted (keep (attribute_named o.attribute.name) (heads f.below))
-            (λ y m. children_given (store_in bs).next (docs_in bs) w.good.serials f.row f.below f.stands y
-            (keep_in (attribute_named o.attribute.name) (heads f.below) y m))
-            ∙ sym (ap (λ (z : ℕ). eqb z 0) (q ∙ row_serial_lem ∙ ap (serial_at 0) rows_are))
+            ap (is_absent k (rows_of (store_in bs))) at ∙ no_first (children_of (attribute_named o.attribute.name) k (rows_of (store_in bs)))
+            ∙ sym (ap (λ (n : Option ℕ). option.is_none n) (q ∙ row_serial_lem))
 
   pub record Known (k : ℕ) : Type 0 where
     pub owned : Owned
@@ -206,7 +207,7 @@ module _ (bs : Bytes) (w : Whole bs) (a : ℕ) where
     refused x = record { is = x.is }
 
     pub refused_past : attribute_count bs ≤ a → AttributeRefused k a (store_in bs) 6
-    refused_past l = refused (gives_hit (ap (λ (z : Option Owned). is_other z (find_row (element_with k) (rows_of (store_in bs)))) (unowned bs w a l)))
+    refused_past l = refused (gives_hit (ap (λ (z : maybe.Option Owned). is_other z (find_row (element_with k) (rows_of (store_in bs)))) (unowned bs w a l)))
 
     pub refused_none : a < attribute_count bs → NoElement bs k → AttributeRefused k a (store_in bs) 7
     refused_none l f = let (o, at) = owned bs w a l in refused (gives_next (ap₂ is_other at f.found) (gives_hit f.there))
@@ -218,6 +219,9 @@ module _ (bs : Bytes) (w : Whole bs) (a : ℕ) where
     refused_not l f h = let (o, at) = owned bs w a l in
         refused (gives_next (unknown_is o at f ∙ ap not (bytes.same← o.owner.name f.row.name (mine o at f h))) (gives_next f.there gives_none))
 
+    pub as_number : {m n : ℕ} → m ≡ n → AttributeRefused k a (store_in bs) n → AttributeRefused k a (store_in bs) m
+    as_number e x = record { is = e ∙ x.is }
+
     -- ---- none of them holds
     module _ {n : ℕ} (x : AttributeRefused k a (store_in bs) n) (h : n ≡ 0) where
       pub both : (unknown_attribute k a (store_in bs) ≡ false) × (no_element k (store_in bs) ≡ false)
@@ -226,7 +230,7 @@ module _ (bs : Bytes) (w : Whole bs) (a : ℕ) where
       pub known_of : Known k
       known_of = by (attribute_at a (form_in bs)) refl (find_row (element_with k) (rows_of (store_in bs))) refl both.0 both.1
         where
-          by : (z : Option Owned) → attribute_at a (form_in bs) ≡ z → (r : Option Row) → find_row (element_with k) (rows_of (store_in bs)) ≡ r → is_other z r ≡ false
+          by : (z : maybe.Option Owned) → attribute_at a (form_in bs) ≡ z → (r : maybe.Option Row) → find_row (element_with k) (rows_of (store_in bs)) ≡ r → is_other z r ≡ false
               → no_element k (store_in bs) ≡ false → Known k
           by none p r q e g = absurd (false≢true (sym e))
           by (some o) p none q e g = absurd (false≢true (sym g ∙ ap not (any_found (element_with k) (rows_of (store_in bs)) ∙ ap is_there q)))
@@ -286,11 +290,11 @@ module _ (bs : Bytes) (w : Whole bs) (a : ℕ) where
       set_early f = gives_next (fine_text bs v u e h) (held (unknown_attribute k a (store_in bs)) (no_element k (store_in bs)) n _ x.is f)
 
       module _ (z : n ≡ 0) {r : Bool} (q : r ≡ (by_index bs).allows a v) where
-        pub set_last : {number : ℕ} → number ≡ first (15 if not r ∷ []) → Gives number (conditions (set_attribute k a v) (store_in bs))
+        pub set_last : Gives (first (15 if not r ∷ [])) (conditions (set_attribute k a v) (store_in bs))
         unfolding conditions
-        set_last g =
+        set_last =
             gives_next (fine_text bs v u e h) (gives_next (both x z).0 (gives_next (both x z).1
-            (record { is = g ∙ ap (λ (b : Bool). first (15 if not b ∷ [])) (q ∙ sym (set_is (known_of x z) v)) })))
+            (record { is = ap (λ (b : Bool). first (15 if not b ∷ [])) (q ∙ sym (set_is (known_of x z) v)) })))
 
   -- ---- 15
   module _ (k : ℕ) {n : ℕ} (x : AttributeRefused k a (store_in bs) n) where
@@ -298,24 +302,24 @@ module _ (bs : Bytes) (w : Whole bs) (a : ℕ) where
     unfolding conditions
     drop_early f = held_or (unknown_attribute k a (store_in bs)) (no_element k (store_in bs)) (is_absent k (rows_of (store_in bs)) (attribute_at a (form_in bs))) n _ x.is f
 
-    module _ (z : n ≡ 0) {i : ℕ} (f : Element bs k i) {r : ℕ} (q : r ≡ flat.serial_of_index a (children_at bs 2 i)) where
-      missing : is_absent k (rows_of (store_in bs)) (attribute_at a (form_in bs)) ≡ eqb r 0
+    module _ (z : n ≡ 0) {i : ℕ} (f : Element bs k i) {r : Option ℕ} (q : r ≡ flat.serial_of_index a (children_at bs 2 i)) where
+      missing : is_absent k (rows_of (store_in bs)) (attribute_at a (form_in bs)) ≡ option.is_none r
       missing = absent_is (known_of x z).owned (known_of x z).at f (same_row_lem (known_of x z) f) q
 
-      pub drop_7 : r ≡ 0 → Gives 7 (conditions (destroy_attribute_row k a) (store_in bs))
+      pub drop_7 : r ≡ None → Gives 7 (conditions (destroy_attribute_row k a) (store_in bs))
       unfolding conditions
-      drop_7 e = gives_next (both x z).0 (gives_hit (ap₂ (λ (u v : Bool). u || v) (both x z).1 (missing ∙ eq-eqb r 0 e)))
+      drop_7 e = gives_next (both x z).0 (gives_hit (ap₂ (λ (u v : Bool). u || v) (both x z).1 (missing ∙ ap (λ (n : Option ℕ). option.is_none n) e)))
 
-      module _ (e : r ≡ 0 → ⊥) {j : ℕ} (d : j ≡ (row_in bs i).row.index) {c : Bool} (m : c ≡ (eqb (attribute_in (width_of bs) (attributes_in bs) a).owner j && (by_index bs).needed a)) where
+      module _ {m : ℕ} (e : r ≡ Some m) {j : ℕ} (d : j ≡ (row_in bs i).row.index) {c : Bool} (need : c ≡ (eqb (attribute_in (width_of bs) (attributes_in bs) a).owner j && (by_index bs).needed a)) where
         there : (no_element k (store_in bs) || is_absent k (rows_of (store_in bs)) (attribute_at a (form_in bs))) ≡ false
-        there = ap₂ (λ (u v : Bool). u || v) (both x z).1 (missing ∙ ne_eqb r 0 e)
+        there = ap₂ (λ (u v : Bool). u || v) (both x z).1 (missing ∙ ap (λ (n : Option ℕ). option.is_none n) e)
 
         needed : c ≡ (by_index bs).needed a
-        needed = m ∙ ap (λ (u : Bool). u && (by_index bs).needed a) (eq-eqb (attribute_in (width_of bs) (attributes_in bs) a).owner j (owner_is (known_of x z) f ∙ sym d))
+        needed = need ∙ ap (λ (u : Bool). u && (by_index bs).needed a) (eq-eqb (attribute_in (width_of bs) (attributes_in bs) a).owner j (owner_is (known_of x z) f ∙ sym d))
 
         after_is : not (conforming (store_in bs).version (form_in bs) (after (destroy_attribute_row k a) (store_in bs)).docs) ≡ c
         after_is = ap not (drop_is (known_of x z)) ∙ not-not ((by_index bs).needed a) ∙ sym needed
 
-        pub drop_last : {number : ℕ} → number ≡ first (15 if c ∷ []) → Gives number (conditions (destroy_attribute_row k a) (store_in bs))
+        pub drop_last : Gives (first (15 if c ∷ [])) (conditions (destroy_attribute_row k a) (store_in bs))
         unfolding conditions
-        drop_last e = gives_next (both x z).0 (gives_next there (record { is = e ∙ ap (λ (v : Bool). first (15 if v ∷ [])) (sym after_is) }))
+        drop_last = gives_next (both x z).0 (gives_next there (record { is = ap (λ (v : Bool). first (15 if v ∷ [])) (sym after_is) }))

@@ -4,6 +4,7 @@
 ghost use Rattle.std.specs.Prelude.{◌≡◌, true};
 ghost use Rattle.rules.specs.Passing.{passes};
 ghost use Rattle.rules.specs.Change.{create_definition, destroy_definition};
+ghost use Rattle.rules.specs.Given.{number_given};
 ghost use Rattle.rules.specs.Refusal.{first, conditions};
 ghost use Rattle.layout.specs.Bodies.{width_of};
 ghost use Rattle.lookup.specs.Bodies.{bodies_of};
@@ -12,44 +13,46 @@ ghost use Rattle.definition_creation.specs.Bodies.{created};
 ghost use Rattle.definition_removal.specs.Bodies.{Defined, destroyed};
 ghost use Rattle.call_laws.specs.Limits.{Limit};
 
-/// The number of the first condition of change 1 that holds, 0 if none does.
-pub fn create_condition(store: &[u8], name: &[u8], kind: u32) -> u32
+use rules::Refusal;
+
+/// Refused by the first condition of change 1 that holds.
+pub fn create_condition(store: &[u8], name: &[u8], kind: u32) -> Result<(), Refusal>
     requires { passes store.now ≡ true }
-    ensures { result ≡ first (conditions (create_definition name.now kind) (store_in store.now)) }
+    ensures { number_given result ≡ first (conditions (create_definition name.now kind) (store_in store.now)) }
 {
     if !records::given_name(name) {
-        return 2;
+        return Err(Refusal::BadName);
     }
     if kind > 2 {
-        return 4;
+        return Err(Refusal::BadCode);
     }
     if definition_writer::name_exists(store, name) {
-        return 5;
+        return Err(Refusal::Taken);
     }
-    0
+    Ok(())
 }
 
-/// The number of the first limit that change 1 passes, 0 if it keeps within all.
-pub fn create_limit(store: &[u8], name: &[u8], kind: u32, room: usize) -> u32
+/// Refused by the first limit that change 1 passes.
+pub fn create_limit(store: &[u8], name: &[u8], kind: u32, room: usize) -> Result<(), Refusal>
     requires { passes store.now ≡ true }
-    ensures { Limit (width_of store.now) room (created name.now kind (bodies_of store.now)) result }
+    ensures { Limit (width_of store.now) room (created name.now kind (bodies_of store.now)) (number_given result) }
 {
     if layout::definition_count(store) >= layout::MAX_DEFINITIONS {
-        return 16;
+        return Err(Refusal::Ceiling);
     }
     if store.len() + layout::definition_size() > room {
-        return 18;
+        return Err(Refusal::Buffer);
     }
-    0
+    Ok(())
 }
 
-/// The number of the first condition of change 2 that holds, 0 if none does.
-pub fn destroy_condition(store: &[u8], i: u32) -> u32
+/// Refused by the first condition of change 2 that holds.
+pub fn destroy_condition(store: &[u8], i: u32) -> Result<(), Refusal>
     requires { passes store.now ≡ true }
-    ensures { result ≡ first (conditions (destroy_definition i) (store_in store.now)) }
+    ensures { number_given result ≡ first (conditions (destroy_definition i) (store_in store.now)) }
 {
     if i as usize >= layout::definition_count(store) {
-        return 6;
+        return Err(Refusal::Unknown);
     }
     let w = layout::width_in(store);
     let particles = layout::particle_count(store);
@@ -57,15 +60,15 @@ pub fn destroy_condition(store: &[u8], i: u32) -> u32
     let in_model = definition_removal::has_member(layout::particles_of(store), particles, i);
     let in_root = definition_removal::has_root(w, layout::rows_of(store), rows, i);
     if in_model | in_root {
-        return 10;
+        return Err(Refusal::InUse);
     }
-    0
+    Ok(())
 }
 
-/// 18 if the store without definition i is longer than the room, else 0.
-pub fn destroy_limit(store: &[u8], i: u32, room: usize) -> u32
+/// Refused if the store without definition i is longer than the room.
+pub fn destroy_limit(store: &[u8], i: u32, room: usize) -> Result<(), Refusal>
     requires { Defined store.now i }
-    ensures { Limit (width_of store.now) room (destroyed i (bodies_of store.now)) result }
+    ensures { Limit (width_of store.now) room (destroyed i (bodies_of store.now)) (number_given result) }
 {
     let w = layout::width_in(store);
     let d = layout::definition_count(store);
@@ -73,7 +76,7 @@ pub fn destroy_limit(store: &[u8], i: u32, room: usize) -> u32
     let a = definition_removal::attributes_left(store, i);
     let r = layout::row_count(store);
     if layout::through_rows(w, d - 1, p, a, r) > room {
-        return 18;
+        return Err(Refusal::Buffer);
     }
-    0
+    Ok(())
 }

@@ -74,10 +74,8 @@ fn put_particles(body: &[u8], count: usize, definition: u32, out: &mut [u8], sta
     ensures { Laid (each_record (particle_record (lowered (suc definition) 1)) particle_size count body.now) out.old start result out.new }
 {
     let mut at = start;
-    let mut i = 0;
-    while i < count {
+    for i in 0..count {
         at = put_particle(layout::particle_at(body, i), definition, out, at);
-        i += 1;
     }
     at
 }
@@ -94,10 +92,8 @@ fn put_attributes(
     ensures { Laid (each_record (attribute_record (lowered (suc definition) 1)) (attribute_size w) count body.now) out.old start result out.new }
 {
     let mut at = start;
-    let mut i = 0;
-    while i < count {
+    for i in 0..count {
         at = put_attribute(w, layout::attribute_at(w, body, i), definition, out, at);
-        i += 1;
     }
     at
 }
@@ -127,12 +123,10 @@ pub fn has_member(body: &[u8], count: usize, definition: u32) -> bool
     requires { count < 4294967296 }
     ensures { result ≡ any (is_member definition) (read_many read_particle particle_size count body.now) }
 {
-    let mut i = 0;
-    while i < count {
+    for i in 0..count {
         if is_member(layout::particle_at(body, i), definition) {
             return true;
         }
-        i += 1;
     }
     false
 }
@@ -141,12 +135,10 @@ pub fn has_root(w: usize, body: &[u8], count: usize, definition: u32) -> bool
     requires { Width w × (count < 4294967296) }
     ensures { result ≡ any (is_root definition) (read_many read_row (row_size w) count body.now) }
 {
-    let mut i = 0;
-    while i < count {
+    for i in 0..count {
         if is_root(layout::row_at(w, body, i), definition) {
             return true;
         }
-        i += 1;
     }
     false
 }
@@ -165,10 +157,8 @@ fn attributes_below(w: usize, body: &[u8], count: usize, i: u32) -> usize
     ensures { CountWithin (attributes_up_to i (read_many read_attribute (attribute_size w) count body.now)) count result }
 {
     let mut sum = 0;
-    let mut j = 0;
-    while j < count {
+    for j in 0..count {
         sum += one_below(layout::attribute_at(w, body, j), i);
-        j += 1;
     }
     sum
 }

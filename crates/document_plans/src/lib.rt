@@ -1,7 +1,7 @@
 //! The plans of changes 11 to 16, which change documents.
 #![tactic(auto)]
 
-ghost use Rattle.std.specs.Prelude.{◌≡◌, true, false};
+ghost use Rattle.std.specs.Prelude.{◌≡◌, true, false, unwrap_or};
 ghost use Rattle.rules.specs.Passing.{passes};
 ghost use Rattle.rules.specs.Refusal.{no_element};
 ghost use Rattle.store_laws.specs.Stores.{store_in};
@@ -25,7 +25,8 @@ pub fn adding_element(store: &[u8], parent: u32, child: u32, definition: u32) ->
     requires { (passes store.now ≡ true) × (no_element parent (store_in store.now) ≡ false) }
     ensures { result ≡ add_element_plan parent (child_serial parent child (store_in store.now)) definition }
 {
-    let row = document_rows::child_serial(store, parent, child);
+    // In a plan the serial 0 is that of no row.
+    let row = document_rows::child_serial(store, parent, child).unwrap_or(0);
     let filling = Filling::Definition(definition as usize);
     plans::filling_plan(Which::Serial(parent), Later::Row(row), filling)
 }
@@ -37,16 +38,13 @@ pub fn destroying_element(element: u32) -> Plan
     plans::taking_plan(Which::Everything, Which::Serial(element))
 }
 
-// The serial of the row of an attribute right below an element; 0 if there is none.
-fn attribute_serial(store: &[u8], element: u32, attribute: u32) -> u32
+// The serial of the row of an attribute right below an element.
+fn attribute_serial(store: &[u8], element: u32, attribute: u32) -> Option<u32>
     requires { (passes store.now ≡ true) × AttributeRefused element attribute (store_in store.now) 0 }
-    ensures { result ≡ attribute_serial element attribute (store_in store.now) }
+    ensures { unwrap_or result 0 ≡ attribute_serial element attribute (store_in store.now) }
 {
-    document_rows::attribute_row_serial(
-        store,
-        document_rows::find_element(store, element),
-        attribute as usize,
-    )
+    let i = document_rows::find_element(store, element)?;
+    document_rows::attribute_row_serial(store, i, attribute as usize)
 }
 
 /// 14: the row of an attribute of an element gets the value; where there is none, one is made.
@@ -54,7 +52,7 @@ pub fn setting_attribute(store: &[u8], element: u32, attribute: u32) -> Plan
     requires { (passes store.now ≡ true) × AttributeRefused element attribute (store_in store.now) 0 }
     ensures { result ≡ set_attribute_plan element attribute (attribute_serial element attribute (store_in store.now)) }
 {
-    let row = attribute_serial(store, element, attribute);
+    let row = attribute_serial(store, element, attribute).unwrap_or(0);
     plans::set_attribute_plan(element, attribute as usize, row)
 }
 
@@ -71,6 +69,6 @@ pub fn setting_text(store: &[u8], element: u32) -> Plan
     requires { (passes store.now ≡ true) × (no_element element (store_in store.now) ≡ false) }
     ensures { result ≡ set_text_plan (text_serial element (store_in store.now)) }
 {
-    let row = document_rows::text_serial(store, element);
+    let row = document_rows::text_serial(store, element).unwrap_or(0);
     plans::setting_plan(row)
 }

@@ -9,7 +9,7 @@ use mathlib.Core.List.{List, map, Memᴰ}
 use lib.Dec.{eqb}
 use lib.ListN.{length}
 use Rattle.rules.specs.Bytes.{Bytes, bytes, numbers, eqb_eq}
-use Rattle.rules.specs.Model.{Distinct, names}
+use Rattle.rules.specs.Model.{Distinct}
 use Rattle.rules.specs.Automaton.{accepts}
 use Rattle.rules.specs.Store.{Definition, element, Row, Forest, Store, heads, members}
 use Rattle.rules.specs.Layout.{value_width}

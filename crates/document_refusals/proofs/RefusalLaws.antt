@@ -3,7 +3,13 @@ use Prim.Native.Nat.{ℕ, ◌<◌, ◌≤◌}
 use native.Mathlib.Omega.{arith}
 use mathlib.Core.Path.{◌≡◌, refl, sym, ap, ◌∙◌}
 use mathlib.Core.Bool.{Bool, true, false, not}
-use mathlib.Core.Option.{Option, none, some}
+use mathlib.Core.Option as maybe
+use mathlib.Core.Option.{none, some}
+use Rattle.std.specs.Prelude.{Option, None, Result, Err, ok_or}
+use Rattle.rules.specs.declared.Refusal.{Refusal}
+use Rattle.rules.specs.declared.Refusal.TheVariants.{BadStore, BadName, BadValue, BadCode, Taken, Unknown, NoRow, NoPlace, WrongKind, InUse, Round}
+use Rattle.rules.specs.declared.Refusal.TheVariants.{Default, OffSpine, Grouping, NoMatch, Ceiling, Serials, Buffer, BadText}
+use Rattle.rules.specs.Given.{refusal_number, number_given}
 use Rattle.rules.specs.Bytes.{Bytes}
 use Rattle.rules.specs.Store.{Content, empty, pcdata, complex, Definition, Row}
 use Rattle.rules.specs.Layout.{kind_code}
@@ -19,6 +25,32 @@ use Rattle.store_check.proofs.StoreFacts.{form_in, Whole, bad_text_lem, fine_tex
 use Rattle.document_rows.proofs.ElementFacts.{Element, NoElement, defined}
 use Rattle.document_rows.proofs.RowFacts.{kind_is}
 use Rattle.change_laws.proofs.FirstCondition.{gives_hit, gives_next, gives_none}
+
+-- a refusal has a number
+pub some_number : (r : Refusal) → refusal_number r ≡ 0 → ⊥
+some_number BadStore e = absurd (omega arith)
+some_number BadName e = absurd (omega arith)
+some_number BadValue e = absurd (omega arith)
+some_number BadCode e = absurd (omega arith)
+some_number Taken e = absurd (omega arith)
+some_number Unknown e = absurd (omega arith)
+some_number NoRow e = absurd (omega arith)
+some_number NoPlace e = absurd (omega arith)
+some_number WrongKind e = absurd (omega arith)
+some_number InUse e = absurd (omega arith)
+some_number Round e = absurd (omega arith)
+some_number Default e = absurd (omega arith)
+some_number OffSpine e = absurd (omega arith)
+some_number Grouping e = absurd (omega arith)
+some_number NoMatch e = absurd (omega arith)
+some_number Ceiling e = absurd (omega arith)
+some_number Serials e = absurd (omega arith)
+some_number Buffer e = absurd (omega arith)
+some_number BadText e = absurd (omega arith)
+
+-- the number of the refusal where there is nothing
+pub refused_number : {A : Type 0} {o : Option A} (r : Refusal) {e : Refusal} → o ≡ None → Err e ≡ ok_or o r → refusal_number e ≡ refusal_number r
+refused_number {A} {o} r {e} n q = ap (λ (z : Result A Refusal). number_given z) q ∙ ap (λ (z : Option A). number_given (ok_or z r)) n
 
 module _ (bs : Bytes) (w : Whole bs) where
   -- ---- 11
@@ -37,7 +69,7 @@ module _ (bs : Bytes) (w : Whole bs) where
 
   pcdata_is : {k i : ℕ} (e : Element bs k i) → pcdata_element k (store_in bs) ≡ is_pcdata (some (defined bs w k i e).definition)
   pcdata_is {k} {i} e =
-      ap (λ (o : Option Row). elim o as (λ z. Bool) [ none ↦ false | some r ↦ is_pcdata (lookup r.name (form_in bs)) ]) e.found
+      ap (λ (o : maybe.Option Row). elim o as (λ z. Bool) [ none ↦ false | some r ↦ is_pcdata (lookup r.name (form_in bs)) ]) e.found
       ∙ ap is_pcdata (defined bs w k i e).found
 
   pcdata_code : (d : Definition) → kind_code d.content ≡ 1 → is_pcdata (some d) ≡ true

@@ -1,14 +1,16 @@
 -- What the bytes of a store that passes say of the element row with a serial.
-use Prim.Native.Nat.{ℕ, suc, ◌+◌, ◌<◌, ◌≤◌}
+use Prim.Native.Nat.{ℕ, suc, ◌+◌, ◌<◌}
 use native.Mathlib.Omega.{arith}
 use mathlib.Core.Path.{◌≡◌, refl, sym, ap, ap₂, ◌∙◌, subst}
 use mathlib.Core.Logic.{◌⊎◌, inl, inr, ⊎_elim}
 use mathlib.Core.Bool.{Bool, true, false, ◌&&◌, ◌||◌, not, false≢true}
-use mathlib.Core.Option.{Option, none, some, some-injective}
+use mathlib.Core.Option as maybe
+use mathlib.Core.Option.{none, some, some-injective}
 use mathlib.Core.List.Memᴰ
 use mathlib.Core.List.{List, [], ◌∷◌, ◌++◌, map, append-nil, Memᴰ}
 use mathlib.Core.List.{nil≢cons, head-eq_of_cons-eq, tail-eq_of_cons-eq}
 use lib.Dec.{eqb}
+use Rattle.std.specs.Prelude.{Option, None, Some}
 use lib.ListN.{length}
 use Rattle.rules.specs.Bytes.{Bytes, any, eqb_eq, eqb_of}
 use Rattle.rules.specs.Store.{Definition, RowSort, element, attribute, text, Row, Forest, heads, Form}
@@ -20,7 +22,7 @@ use Rattle.rules.specs.Conforming.{is_element, is_text, ElementRows, RowConforms
 use Rattle.rules.specs.Change.{definition_at}
 use Rattle.rules.specs.Lines.{Line, lines, element_with, find_row, children_of}
 use Rattle.rules.specs.Refusal.{rows_of, no_element}
-use Rattle.rules.proofs.Words.{or_cases, and_both, and_split, below_or}
+use Rattle.rules.proofs.Words.{or_cases, and_both, and_split}
 use Rattle.rules.proofs.BooleanLaws.{any_in}
 use Rattle.change_laws.proofs.RowEdits.{row_serial, keep}
 use Rattle.change_laws.proofs.Rowwise.{Standing}
@@ -28,11 +30,11 @@ use Rattle.change_laws.proofs.Untouched.{keep_alike}
 use Rattle.change_laws.proofs.StandingLaws as standing
 use Rattle.change_laws.proofs.StandingLaws.{standing_every, standing_line, found_stands, one_row_lem}
 use Rattle.layout.specs.Bodies.{width_of, tree_rows_in}
-use Rattle.lookup.proofs.Laws.{from_step, from_none}
+use Rattle.lookup.proofs.Laws.{from_step}
 use Rattle.store_check.proofs.IndexLaws.{Indexed, known_index}
 use Rattle.store_check.proofs.AttributeRows.{row_written}
 use Rattle.store_laws.specs.Stores.{store_in}
-use Rattle.document_rows.specs.Finding.{Begins, ElementRowAt, ParentAt, children, element_row_with, is_this, is_parent, Test, seek, serial_in, children_at}
+use Rattle.document_rows.specs.Finding.{Begins, BeginsAt, ElementRowAt, ParentAt, children, element_row_with, is_this, is_parent, Test, seek, serial_in, children_below, children_at}
 use Rattle.document_rows.proofs.SuffixLaws.{row_at}
 use Rattle.document_rows.proofs.TreeLaws.{of_sort, Located, located_children, seek_tree}
 use Rattle.store_check.proofs.StoreFacts.{form_in, docs_in, Whole}
@@ -41,20 +43,19 @@ use Rattle.rules.proofs.ConformingLaws.{is_element_lem}
 use Rattle.lookup.specs.Bodies.{rows_from}
 
 -- rows that a reader cut out are those of the string
-begins_in : (bs : Bytes) (p : Test) {n : ℕ} {rows : Bytes} {count r : ℕ} → n ≡ width_of bs → rows ≡ tree_rows_in bs → count ≡ row_count bs → Begins n rows count r (seek p (rows_from n rows count 0))
+begins_in : (bs : Bytes) (p : Test) {n : ℕ} {rows : Bytes} {count : ℕ} (r : Option ℕ) → n ≡ width_of bs → rows ≡ tree_rows_in bs → count ≡ row_count bs → Begins n rows count r (seek p (rows_from n rows count 0))
     → Begins (width_of bs) (tree_rows_in bs) (row_count bs) r (seek p (rows_from (width_of bs) (tree_rows_in bs) (row_count bs) 0))
-begins_in bs p {r = r} v e g b =
+begins_in bs p None v e g b = sym (λ i. seek p (rows_from (v i) (e i) (g i) 0)) ∙ b
+begins_in bs p (Some r) v e g b =
     record { from = sym (λ i. rows_from (v i) (e i) (g i) r) ∙ b.from ∙ (λ i. seek p (rows_from (v i) (e i) (g i) 0)); within = omega (arith, b.within, g) }
 
-pub element_at_is : (bs : Bytes) → Whole bs → (k : ℕ) {n : ℕ} {rows : Bytes} {count r : ℕ} → n ≡ width_of bs → rows ≡ tree_rows_in bs → count ≡ row_count bs
+pub element_at_is : (bs : Bytes) → Whole bs → (k : ℕ) {n : ℕ} {rows : Bytes} {count : ℕ} (r : Option ℕ) → n ≡ width_of bs → rows ≡ tree_rows_in bs → count ≡ row_count bs
     → Begins n rows count r (seek (is_this k) (rows_from n rows count 0)) → ElementRowAt bs k r
-element_at_is bs w k v e g b =
-    record { begins = begins_in bs (is_this k) v e g b; few = w.few }
+element_at_is bs w k r v e g b = record { begins = begins_in bs (is_this k) r v e g b; few = w.few }
 
-pub parent_at_is : (bs : Bytes) → Whole bs → (k : ℕ) {n : ℕ} {rows : Bytes} {count r : ℕ} → n ≡ width_of bs → rows ≡ tree_rows_in bs → count ≡ row_count bs
+pub parent_at_is : (bs : Bytes) → Whole bs → (k : ℕ) {n : ℕ} {rows : Bytes} {count : ℕ} (r : Option ℕ) → n ≡ width_of bs → rows ≡ tree_rows_in bs → count ≡ row_count bs
     → Begins n rows count r (seek (is_parent k) (rows_from n rows count 0)) → ParentAt bs k r
-parent_at_is bs w k v e g b =
-    record { begins = begins_in bs (is_parent k) v e g b; few = w.few }
+parent_at_is bs w k r v e g b = record { begins = begins_in bs (is_parent k) r v e g b; few = w.few }
 
 -- ---- lines
 pub any_found : (test : Row → Bool) (ls : List Line) → any (λ (l : Line). test l.row) ls ≡ is_there (find_row test ls)
@@ -69,7 +70,7 @@ any_found test (l ∷ ls) = by (test l.row) refl (any_found test ls)
 find_none : (test : Row → Bool) (docs : Forest Row) → ((r : Row) (b : Forest Row) → Standing docs r b → test r ≡ false) → find_row test (lines 0 docs) ≡ none
 find_none test docs f = by (find_row test (lines 0 docs)) refl
   where
-    by : (o : Option Row) → find_row test (lines 0 docs) ≡ o → o ≡ none
+    by : (o : maybe.Option Row) → find_row test (lines 0 docs) ≡ o → o ≡ none
     by none e = refl
     by (some r) e = let (b, i, h) = found_stands test docs r e in absurd (false≢true (sym (f r b i) ∙ h))
 
@@ -77,7 +78,7 @@ find_some : (test : Row → Bool) (docs : Forest Row) (r : Row) (b : Forest Row)
     → ((s : Row) (c : Forest Row) → Standing docs s c → test s ≡ true → s ≡ r) → find_row test (lines 0 docs) ≡ some r
 find_some test docs r b i h once = by (find_row test (lines 0 docs)) refl
   where
-    by : (o : Option Row) → find_row test (lines 0 docs) ≡ o → o ≡ some r
+    by : (o : maybe.Option Row) → find_row test (lines 0 docs) ≡ o → o ≡ some r
     by none e = absurd (false≢true (sym (ap is_there e) ∙ sym (any_found test (lines 0 docs)) ∙ standing_line test 0 docs r b i h))
     by (some s) e = let (c, j, g) = found_stands test docs s e in ap some (once s c j g)
 
@@ -113,17 +114,10 @@ code_text text = refl
 
 module _ (bs : Bytes) (w : Whole bs) where
   -- rows that begin with a row that stands
-  module _ (i : ℕ) {xs : List (Deep FlatRow)} (b : Begins (width_of bs) (tree_rows_in bs) (row_count bs) i xs) (l : Located (form_in bs) (docs_in bs) xs) where
-    pub located_below : i < row_count bs
-    located_below = by (below_or i (row_count bs))
-      where
-        by : (i < row_count bs) ⊎ (row_count bs ≤ i) → i < row_count bs
-        by (inl h) = h
-        by (inr h) = absurd (nil≢cons (sym (from_none read_row (row_size (width_of bs)) (tree_rows_in bs) (row_count bs) i h) ∙ b.from ∙ l.rows))
-
+  module _ (i : ℕ) {xs : List (Deep FlatRow)} (b : BeginsAt (width_of bs) (tree_rows_in bs) (row_count bs) i xs) (l : Located (form_in bs) (docs_in bs) xs) where
     located_step : row_at (width_of bs) (tree_rows_in bs) i ∷ rows_from (width_of bs) (tree_rows_in bs) (row_count bs) (i + 1)
         ≡ record { depth = l.depth; row = row_written (form_in bs) l.owner l.row } ∷ (preorder (suc l.depth) (indexed (form_in bs) l.row.name l.below) ++ l.rest)
-    located_step = sym (from_step read_row (row_size (width_of bs)) (tree_rows_in bs) (row_count bs) i located_below) ∙ b.from ∙ l.rows
+    located_step = sym (from_step read_row (row_size (width_of bs)) (tree_rows_in bs) (row_count bs) i b.within) ∙ b.from ∙ l.rows
 
     pub located_here : row_at (width_of bs) (tree_rows_in bs) i ≡ record { depth = l.depth; row = row_written (form_in bs) l.owner l.row }
     located_here = head-eq_of_cons-eq located_step
@@ -167,41 +161,41 @@ module _ (bs : Bytes) (w : Whole bs) where
         subst (λ (zs : List (Deep FlatRow)). Sought (seek p zs)) (append-nil (preorder 0 (indexed (form_in bs) [] (docs_in bs))) ∙ sym w.rows)
         (seek_tree (form_in bs) p q same 0 [] (docs_in bs) [] tt)
 
-    module _ (i : ℕ) (b : Begins (width_of bs) (tree_rows_in bs) (row_count bs) i (seek p (rows_from (width_of bs) (tree_rows_in bs) (row_count bs) 0))) where
-      sought_there : i < row_count bs → (l : Located (form_in bs) (docs_in bs) (seek p (rows_from (width_of bs) (tree_rows_in bs) (row_count bs) 0))) × (q l.row (heads l.below) ≡ true)
-      sought_there h = by sought
-        where
-          by : Sought (seek p (rows_from (width_of bs) (tree_rows_in bs) (row_count bs) 0))
-              → (l : Located (form_in bs) (docs_in bs) (seek p (rows_from (width_of bs) (tree_rows_in bs) (row_count bs) 0))) × (q l.row (heads l.below) ≡ true)
-          by (inl x) = x
-          by (inr (f, e)) = absurd (nil≢cons (sym e ∙ sym b.from ∙ from_step read_row (row_size (width_of bs)) (tree_rows_in bs) (row_count bs) i h))
+    sought_there : (i : ℕ) → BeginsAt (width_of bs) (tree_rows_in bs) (row_count bs) i (seek p (rows_from (width_of bs) (tree_rows_in bs) (row_count bs) 0))
+        → (l : Located (form_in bs) (docs_in bs) (seek p (rows_from (width_of bs) (tree_rows_in bs) (row_count bs) 0))) × (q l.row (heads l.below) ≡ true)
+    sought_there i b = by sought
+      where
+        by : Sought (seek p (rows_from (width_of bs) (tree_rows_in bs) (row_count bs) 0))
+            → (l : Located (form_in bs) (docs_in bs) (seek p (rows_from (width_of bs) (tree_rows_in bs) (row_count bs) 0))) × (q l.row (heads l.below) ≡ true)
+        by (inl x) = x
+        by (inr (f, e)) = absurd (nil≢cons (sym e ∙ sym b.from ∙ from_step read_row (row_size (width_of bs)) (tree_rows_in bs) (row_count bs) i b.within))
 
-      sought_none : row_count bs ≤ i → (r : Row) (c : Forest Row) → Standing (docs_in bs) r c → q r (heads c) ≡ false
-      sought_none h = by sought
-        where
-          by : Sought (seek p (rows_from (width_of bs) (tree_rows_in bs) (row_count bs) 0)) → (r : Row) (c : Forest Row) → Standing (docs_in bs) r c → q r (heads c) ≡ false
-          by (inl (l, e)) = let z : i < row_count bs = located_below i b l in absurd (omega arith)
-          by (inr (f, e)) = f
+    sought_none : seek p (rows_from (width_of bs) (tree_rows_in bs) (row_count bs) 0) ≡ [] → (r : Row) (c : Forest Row) → Standing (docs_in bs) r c → q r (heads c) ≡ false
+    sought_none h = by sought
+      where
+        by : Sought (seek p (rows_from (width_of bs) (tree_rows_in bs) (row_count bs) 0)) → (r : Row) (c : Forest Row) → Standing (docs_in bs) r c → q r (heads c) ≡ false
+        by (inl (l, e)) = absurd (nil≢cons (sym h ∙ l.rows))
+        by (inr (f, e)) = f
 
-  module _ (k i : ℕ) (b : Begins (width_of bs) (tree_rows_in bs) (row_count bs) i (seek (is_this k) (rows_from (width_of bs) (tree_rows_in bs) (row_count bs) 0))) where
+  module _ (k : ℕ) where
     element_test : (owner : Bytes) (r : Row) (rows : List Row) → element_row_with k (row_written (form_in bs) owner r) ≡ element_with k r
     element_test owner r rows = ap (λ (z : Bool). z && eqb r.serial k) (element_code r.sort)
 
-    pub element_there : i < row_count bs → Element bs k i
-    element_there h =
-        let (l, e) = sought_there (is_this k) (λ r rows. element_with k r) element_test i b h in
+    pub element_there : {i : ℕ} → ElementRowAt bs k (Some i) → Element bs k i
+    element_there {i} f =
+        let (l, e) = sought_there (is_this k) (λ r rows. element_with k r) element_test i f.begins in
         let (x, y) = and_split (is_element l.row.sort) (eqb l.row.serial k) e in
-        subst (λ (n : ℕ). Element bs n i) (eqb_eq l.row.serial k y) (located_element i b l x)
+        subst (λ (n : ℕ). Element bs n i) (eqb_eq l.row.serial k y) (located_element i f.begins l x)
 
-    pub element_absent : row_count bs ≤ i → NoElement bs k
-    element_absent h =
-        let g : find_row (element_with k) (rows_of (store_in bs)) ≡ none = find_none (element_with k) (docs_in bs) (sought_none (is_this k) (λ r rows. element_with k r) element_test i b h) in
+    pub element_absent : ElementRowAt bs k None → NoElement bs k
+    element_absent f =
+        let g : find_row (element_with k) (rows_of (store_in bs)) ≡ none = find_none (element_with k) (docs_in bs) (sought_none (is_this k) (λ r rows. element_with k r) element_test f.begins) in
         record { found = g; there = ap not (any_found (element_with k) (rows_of (store_in bs)) ∙ ap is_there g) }
 
   -- ---- what is read of it
   module _ (k i : ℕ) (e : Element bs k i) where
     pub children_at_lem : (s : ℕ) → children_at bs s i ≡ map (row_written (form_in bs) e.row.name) (keep (of_sort (form_in bs) s) (heads e.below))
-    unfolding children_at
+    unfolding children_below
     children_at_lem s = ap (λ (z : Deep FlatRow). children s (suc z.depth) (rows_from (width_of bs) (tree_rows_in bs) (row_count bs) (i + 1))) e.here ∙ e.children_are s
 
     pub elements_at : children_at bs 1 i ≡ map (row_written (form_in bs) e.row.name) (keep (λ r. is_element r.sort) (heads e.below))
@@ -234,7 +228,7 @@ module _ (bs : Bytes) (w : Whole bs) where
     pub among : Memᴰ child (heads parent.below)
     pub here : element_with k child ≡ true
 
-  module _ (k i : ℕ) (b : Begins (width_of bs) (tree_rows_in bs) (row_count bs) i (seek (is_parent k) (rows_from (width_of bs) (tree_rows_in bs) (row_count bs) 0))) where
+  module _ (k : ℕ) where
     parent_test : (owner : Bytes) (r : Row) (rows : List Row) → any (element_row_with k) (map (row_written (form_in bs) r.name) (keep (of_sort (form_in bs) 1) rows)) ≡ any (element_with k) rows
     unfolding keep
     parent_test owner r [] = refl
@@ -256,12 +250,12 @@ module _ (bs : Bytes) (w : Whole bs) where
         by true h = sym (any_in (element_with k) r rows m h) ∙ e
         by false h = refl
 
-    pub parent_there : i < row_count bs → Parent k i
+    pub parent_there : {i : ℕ} → ParentAt bs k (Some i) → Parent k i
     unfolding located_element sought_there
-    parent_there h =
-        let (l, e) = sought_there (is_parent k) (λ r rows. any (element_with k) rows) parent_test i b h in
+    parent_there {i} f =
+        let (l, e) = sought_there (is_parent k) (λ r rows. any (element_with k) rows) parent_test i f.begins in
         let (y, m, g) = any_some (heads l.below) e in
-        record { serial = l.row.serial; parent = located_element i b l (holder l.row l.below l.stands y m); child = y; among = m; here = g }
+        record { serial = l.row.serial; parent = located_element i f.begins l (holder l.row l.below l.stands y m); child = y; among = m; here = g }
       where
         holder : (r : Row) (c : Forest Row) → Standing (docs_in bs) r c → (y : Row) → Memᴰ y (heads c) → is_element r.sort ≡ true
         holder r c j y m = by r.sort (standing_every (λ r below. RowConforms (store_in bs).version (form_in bs) r below) (docs_in bs) w.good.docs.rows r c j)
@@ -277,8 +271,8 @@ module _ (bs : Bytes) (w : Whole bs) where
             by attribute x = absurd (Memᴰ.not-nil (subst (λ (z : List Row). Memᴰ y z) x m))
             by text x = absurd (Memᴰ.not-nil (subst (λ (z : List Row). Memᴰ y z) x m))
 
-    pub parent_absent : row_count bs ≤ i → (u : Row) (c : Forest Row) → Standing (docs_in bs) u c → (z : Row) → Memᴰ z (heads c) → element_with k z ≡ false
-    parent_absent h u c j z m = any_none (heads c) (sought_none (is_parent k) (λ r rows. any (element_with k) rows) parent_test i b h u c j) z m
+    pub parent_absent : ParentAt bs k None → (u : Row) (c : Forest Row) → Standing (docs_in bs) u c → (z : Row) → Memᴰ z (heads c) → element_with k z ≡ false
+    parent_absent f u c j z m = any_none (heads c) (sought_none (is_parent k) (λ r rows. any (element_with k) rows) parent_test f.begins u c j) z m
 
   -- ---- its definition
   pub record Defined (k i : ℕ) (e : Element bs k i) : Type 0 where

@@ -3,10 +3,9 @@ use Prim.Native.Nat.{ℕ, suc, ◌+◌, ◌-◌, ◌<◌, ◌≤◌}
 use native.Mathlib.Omega.{arith}
 use native.Mathlib.Numerals.{add-one}
 use borrow.Author.Tests.{eq-eqb, ne_eqb}
-use mathlib.Core.Path.{◌≡◌, refl, sym, ap, ap₂, ◌∙◌, subst}
-use Rattle.rules.specs.Bytes.{Bytes}
-use Rattle.rules.specs.Decode.{read_row}
-use mathlib.Core.Bool.{Bool, true, false, ◌&&◌, not, false≢true}
+use mathlib.Core.Path.{◌≡◌, refl, sym, ap, ap₂, ◌∙◌}
+use mathlib.Core.Bool.{Bool, true, false, ◌&&◌}
+use Rattle.std.specs.Prelude.{Option, None, Some}
 use mathlib.Core.List.{List, [], ◌∷◌, ◌++◌, append_assoc, append-nil}
 use lib.ListN.{get_or}
 use Rattle.rules.specs.Model.{Members}
@@ -29,71 +28,74 @@ module _ (ms : Members ℕ) (t : List ℕ) (l : NextsLine 64 ms 0 t) (last : ℕ
 
 -- ---- a name stepped over, or none
 module _ (ms : Members ℕ) (last : ℕ) where
-  stepped_nil : NamesStepped ms last [] true last
-  stepped_nil = record { on = λ w. refl }
+  pub stepped_none : NamesStepped ms last [] (Some last)
+  stepped_none = record { on = λ w. refl }
 
-  stepped_one : (x y : ℕ) {fits : Bool} → y ≡ x + 1 → fits ≡ steps ms last x → NamesStepped ms last (x ∷ []) fits y
+  pub stepped_one : (x y : ℕ) → y ≡ x + 1 → true ≡ steps ms last x → NamesStepped ms last (x ∷ []) (Some y)
   unfolding runs
-  stepped_one x y {fits} e g = record { on = λ w. ap₂ (λ (b : Bool) (n : ℕ). b && runs ms n w) (sym g) (sym (e ∙ add-one x)) }
+  stepped_one x y e g = record { on = λ w. ap₂ (λ (b : Bool) (n : ℕ). b && runs ms n w) (sym g) (sym (e ∙ add-one x)) }
 
-  as_word : {u v : List ℕ} {fits : Bool} {after : ℕ} → u ≡ v → NamesStepped ms last v fits after → NamesStepped ms last u fits after
+  pub stepped_out : (x : ℕ) → false ≡ steps ms last x → NamesStepped ms last (x ∷ []) None
+  unfolding runs
+  stepped_out x g = record { on = λ w. ap (λ (b : Bool). b && runs ms (suc x) w) (sym g) }
+
+  pub as_word : {u v : List ℕ} {after : Option ℕ} → u ≡ v → NamesStepped ms last v after → NamesStepped ms last u after
   as_word e s = record { on = λ w. ap (λ (z : List ℕ). runs ms last (z ++ w)) e ∙ s.on w }
 
-  pub new_step : (p x : ℕ) {fits : Bool} → p ≡ 1 → fits ≡ steps ms last x → NamesStepped ms last (new_name p x) fits (x + 1)
-  unfolding new_name
-  new_step p x e g = as_word (rw (eq-eqb p 1 e, new_name)) (stepped_one x (x + 1) refl g)
+pub new_one : (p x : ℕ) → p ≡ 1 → new_name p x ≡ x ∷ []
+unfolding new_name
+new_one p x e = rw (eq-eqb p 1 e, new_name)
 
-  pub new_none : (p x : ℕ) → (p ≡ 1 → ⊥) → NamesStepped ms last (new_name p x) true last
-  unfolding new_name
-  new_none p x e = as_word (rw (ne_eqb p 1 e, new_name)) stepped_nil
+pub new_none : (p x : ℕ) → (p ≡ 1 → ⊥) → new_name p x ≡ []
+unfolding new_name
+new_none p x e = rw (ne_eqb p 1 e, new_name)
 
-  pub kept_step : (r : FlatRow) (skip index : ℕ) {fits : Bool} → (r.serial ≡ skip → ⊥) → index ≡ r.index → fits ≡ steps ms last index → NamesStepped ms last (kept_name skip r) fits (index + 1)
-  unfolding kept_name
-  kept_step r skip index e i g = as_word (rw (ne_eqb r.serial skip e, kept_name)) (stepped_one r.index (index + 1) (ap (λ (n : ℕ). n + 1) i) (g ∙ ap (steps ms last) i))
+pub kept_one : (r : FlatRow) (skip index : ℕ) → (r.serial ≡ skip → ⊥) → index ≡ r.index → kept_name skip r ≡ index ∷ []
+unfolding kept_name
+kept_one r skip index e i = rw (ne_eqb r.serial skip e, kept_name) (ap (λ (n : ℕ). n ∷ []) (sym i))
 
-  pub kept_none : (r : FlatRow) (skip : ℕ) → r.serial ≡ skip → NamesStepped ms last (kept_name skip r) true last
-  unfolding kept_name
-  kept_none r skip e = as_word (rw (eq-eqb r.serial skip e, kept_name)) stepped_nil
+pub kept_none : (r : FlatRow) (skip : ℕ) → r.serial ≡ skip → kept_name skip r ≡ []
+unfolding kept_name
+kept_none r skip e = rw (eq-eqb r.serial skip e, kept_name)
 
-module _ (ms : Members ℕ) (new skip : ℕ) where
-  word_runs : (last p : ℕ) (r : FlatRow) (rs : List FlatRow) {a b : Bool} {m n : ℕ} → NamesStepped ms last (new_name p new) a m → NamesStepped ms m (kept_name skip r) b n
-      → runs ms last (word p new skip (r ∷ rs)) ≡ (a && (b && runs ms n (word (p - 1) new skip rs)))
+-- ---- all of them
+-- after the first of the children: what `last` and the places that are left decide is what all decide
+pub record Stepping (ms : Members ℕ) (new skip : ℕ) (all : List ℕ) (last p : ℕ) (rs : List FlatRow) : Type 0 where
+  pub on : (w : List ℕ) → runs ms 0 (all ++ w) ≡ runs ms last (word p new skip rs ++ w)
+
+module _ {ms : Members ℕ} {new skip : ℕ} {all : List ℕ} {last p : ℕ} {rs : List FlatRow} (s : Stepping ms new skip all last p rs) where
+  module _ {r : FlatRow} {more : List FlatRow} (e : rs ≡ r ∷ more) where
+    word_on : (w : List ℕ) → runs ms 0 (all ++ w) ≡ runs ms last (new_name p new ++ (kept_name skip r ++ (word (p - 1) new skip more ++ w)))
+    unfolding word
+    word_on w =
+        s.on w ∙ ap (λ (z : List FlatRow). runs ms last (word p new skip z ++ w)) e
+        ∙ ap (runs ms last) (append_assoc (new_name p new ++ kept_name skip r) (word (p - 1) new skip more) w
+        ∙ append_assoc (new_name p new) (kept_name skip r) (word (p - 1) new skip more ++ w))
+
+    -- the new one, or the child, may not follow
+    pub new_stops : NamesStepped ms last (new_name p new) None → NamesStepped ms 0 all None
+    new_stops x = record { on = λ w. word_on w ∙ x.on (kept_name skip r ++ (word (p - 1) new skip more ++ w)) }
+
+    pub child_stops : {m : ℕ} → NamesStepped ms last (new_name p new) (Some m) → NamesStepped ms m (kept_name skip r) None → NamesStepped ms 0 all None
+    child_stops x y = record { on = λ w. word_on w ∙ x.on (kept_name skip r ++ (word (p - 1) new skip more ++ w)) ∙ y.on (word (p - 1) new skip more ++ w) }
+
+    -- both may
+    pub child_steps : {m n q : ℕ} → NamesStepped ms last (new_name p new) (Some m) → NamesStepped ms m (kept_name skip r) (Some n) → q ≡ p - 1 → Stepping ms new skip all n q more
+    child_steps {n = n} x y e = record {
+      on = λ w. word_on w ∙ x.on (kept_name skip r ++ (word (p - 1) new skip more ++ w)) ∙ y.on (word (p - 1) new skip more ++ w)
+          ∙ ap (λ (z : ℕ). runs ms n (word z new skip more ++ w)) (sym e);
+    }
+
+  -- none is left
+  pub last_steps : {r : Option ℕ} → rs ≡ [] → NamesStepped ms last (new_name p new) r → NamesStepped ms 0 all r
   unfolding word
-  word_runs last p r rs {a} {b} {m} {n} x y =
-      ap (runs ms last) (append_assoc (new_name p new) (kept_name skip r) (word (p - 1) new skip rs))
-      ∙ x.on (kept_name skip r ++ word (p - 1) new skip rs)
-      ∙ ap (λ (z : Bool). a && z) (y.on (word (p - 1) new skip rs))
+  last_steps e x = record { on = λ w. s.on w ∙ ap (λ (z : List FlatRow). runs ms last (word p new skip z ++ w)) e ∙ x.on w }
 
-  -- one child more, which does not fit, or fits
-  pub word_fails : (last p : ℕ) (r : FlatRow) (rs : List FlatRow) {a b : Bool} {m n : ℕ} → NamesStepped ms last (new_name p new) a m → NamesStepped ms m (kept_name skip r) b n
-      → not (a && b) ≡ true → false ≡ runs ms last (word p new skip (r ∷ rs))
-  word_fails last p r rs {a} {b} {m} {n} x y e = sym (word_runs last p r rs x y ∙ by a b e)
-    where
-      by : (a b : Bool) → not (a && b) ≡ true → (a && (b && runs ms n (word (p - 1) new skip rs))) ≡ false
-      by true true e = absurd (false≢true e)
-      by true false e = refl
-      by false b e = refl
+-- what all decide, and that no child is owed
+module _ {ms : Members ℕ} {v : List ℕ} where
+  pub takes_all : {n : ℕ} {b : Bool} → NamesStepped ms 0 v (Some n) → b ≡ finishes ms n → b ≡ runs ms 0 v
+  unfolding runs
+  takes_all x e = e ∙ sym (x.on []) ∙ ap (runs ms 0) (append-nil v)
 
-  pub word_past : (last p : ℕ) (r : FlatRow) (rs : List FlatRow) {a b : Bool} {m n : ℕ} → NamesStepped ms last (new_name p new) a m → NamesStepped ms m (kept_name skip r) b n
-      → not (a && b) ≡ false → runs ms last (word p new skip (r ∷ rs)) ≡ runs ms n (word (p - 1) new skip rs)
-  word_past last p r rs {a} {b} {m} {n} x y e = word_runs last p r rs x y ∙ by a b e
-    where
-      by : (a b : Bool) → not (a && b) ≡ false → (a && (b && runs ms n (word (p - 1) new skip rs))) ≡ runs ms n (word (p - 1) new skip rs)
-      by true true e = refl
-      by true false e = absurd (false≢true (sym e))
-      by false b e = absurd (false≢true (sym e))
-
-  pub word_ends : (last p : ℕ) {a b : Bool} {m : ℕ} → NamesStepped ms last (new_name p new) a m → b ≡ finishes ms m → (a && b) ≡ runs ms last (word p new skip [])
-  unfolding word runs
-  word_ends last p {a} {b} {m} x e = ap (λ (z : Bool). a && z) e ∙ sym (x.on []) ∙ ap (runs ms last) (append-nil (new_name p new))
-
--- the children are taken, from `last` on
-abbrev pub accepted : Members ℕ → ℕ → ℕ → ℕ → ℕ → List FlatRow → Bool
-accepted ms new skip last p rs = runs ms last (word p new skip rs)
-
-pub less_as : (ms : Members ℕ) (new skip last : ℕ) (rs : List FlatRow) {p q : ℕ} → q ≡ p → accepted ms new skip last p rs ≡ accepted ms new skip last q rs
-less_as ms new skip last rs e = ap (λ (p : ℕ). accepted ms new skip last p rs) (sym e)
-
-pub step_at : {ms : Members ℕ} {last : ℕ} (skip : ℕ) {b d : Bytes} {fits : Bool} {after : ℕ} → b ≡ d
-    → NamesStepped ms last (kept_name skip (read_row b).row) fits after → NamesStepped ms last (kept_name skip (read_row d).row) fits after
-step_at {ms} {last} skip {b} {d} {fits} {after} e s = subst (λ (z : Bytes). NamesStepped ms last (kept_name skip (read_row z).row) fits after) e s
+  pub takes_none : NamesStepped ms 0 v None → false ≡ runs ms 0 v
+  takes_none x = sym (x.on []) ∙ ap (runs ms 0) (append-nil v)

@@ -1,10 +1,10 @@
 -- Rows found by their serials, and the rows right below a row, over the rows of the tree body.
-use Rattle.std.specs.Prelude.{ℕ, suc, ◌+◌, ◌-◌, ◌<◌, ◌≤◌, ◌≡◌, Bool, true, false, ◌&&◌, not, List, [], ◌∷◌, ◌++◌, map, eqb, ltb}
+use Rattle.std.specs.Prelude.{ℕ, suc, ◌+◌, ◌-◌, ◌<◌, ◌≤◌, ◌≡◌, Bool, true, false, ◌&&◌, List, [], ◌∷◌, ◌++◌, length, eqb, leb, ltb}
+use Rattle.std.specs.Prelude.{Option, None, Some, MatchOption}
 use Rattle.rules.specs.Bytes.{Bytes, any}
 use Rattle.rules.specs.Model.{Members}
 use Rattle.rules.specs.Preorder.{Deep}
 use Rattle.rules.specs.Layout.{row_size, FlatRow}
-use Rattle.rules.specs.Lines.{serial_at}
 use Rattle.rules.specs.Decode.{read_row, row_count}
 use Rattle.lookup.specs.Bodies.{rows_from}
 use Rattle.model.specs.Members.{all_members}
@@ -12,17 +12,16 @@ use Rattle.model.specs.Steps.{runs}
 use Rattle.layout.specs.Bodies.{width_of, record_at, definitions_in, particles_in, tree_rows_in}
 use Rattle.form_index.specs.Reading.{definition_in, model_part}
 
--- number r of the rows begins xs; past the last row: none
-pub record Begins (w : ℕ) (rows : Bytes) (count r : ℕ) (xs : List (Deep FlatRow)) : Type 0 where
-  pub from : rows_from w rows count r ≡ xs
-  pub within : r ≤ count
+-- number i of the rows begins xs
+pub record BeginsAt (w : ℕ) (rows : Bytes) (count i : ℕ) (xs : List (Deep FlatRow)) : Type 0 where
+  pub from : rows_from w rows count i ≡ xs
+  pub within : i < count
 
--- from the first row of depth d and of a sort on, before any that is less deep
-unfoldable pub next_child : ℕ → ℕ → List (Deep FlatRow) → List (Deep FlatRow)
-next_child s d [] = []
-next_child s d (x ∷ xs) = elim (ltb x.depth d) [ true ↦ [] | false ↦ elim (eqb x.depth d && eqb x.row.sort s) [ true ↦ x ∷ xs | false ↦ next_child s d xs ] ]
+-- the number of the row that begins xs; none where xs is empty
+abbrev pub Begins : ℕ → Bytes → ℕ → Option ℕ → List (Deep FlatRow) → Type 0
+Begins w rows count r xs = MatchOption r (xs ≡ []) (λ i. BeginsAt w rows count i xs)
 
--- all of them
+-- the rows of depth d and of a sort, before any that is less deep
 unfoldable pub children : ℕ → ℕ → List (Deep FlatRow) → List FlatRow
 children s d [] = []
 children s d (x ∷ xs) = elim (ltb x.depth d) [ true ↦ [] | false ↦ elim (eqb x.depth d && eqb x.row.sort s) [ true ↦ x.row ∷ children s d xs | false ↦ children s d xs ] ]
@@ -47,25 +46,19 @@ seek p [] = []
 seek p (x ∷ xs) = elim (p x.row (children 1 (suc x.depth) xs)) [ true ↦ x ∷ xs | false ↦ seek p xs ]
 
 -- ---- in a store
--- number r of its rows is the element row with serial k; past the last row: there is none
-pub record ElementRowAt (bs : Bytes) (k r : ℕ) : Type 0 where
+-- the number of the element row with serial k among its rows; none: there is no such row
+pub record ElementRowAt (bs : Bytes) (k : ℕ) (r : Option ℕ) : Type 0 where
   pub begins : Begins (width_of bs) (tree_rows_in bs) (row_count bs) r (seek (is_this k) (rows_from (width_of bs) (tree_rows_in bs) (row_count bs) 0))
   pub few : row_count bs ≤ 4096
 
 -- ---- children, one after the other
--- row number i is the next child from `start` on; past the last row: there is none
-pub record Child (w s d : ℕ) (rows : Bytes) (count start i : ℕ) : Type 0 where
-  pub same : children s d (rows_from w rows count i) ≡ children s d (rows_from w rows count start)
-  pub head : i < count → children s d (rows_from w rows count i) ≡ (read_row (record_at (row_size w) i rows)).row ∷ children s d (rows_from w rows count (i + 1))
-  pub later : count - i ≤ count - start
-
 abbrev pub serial_in : FlatRow → ℕ
 serial_in r = r.serial
 
--- the serial of the first row with an index; 0 if there is none
-abbrev pub serial_of_index : ℕ → List FlatRow → ℕ
-serial_of_index a [] = 0
-serial_of_index a (r ∷ rs) = elim (eqb r.index a) [ true ↦ r.serial | false ↦ serial_of_index a rs ]
+-- the serial of the first row with an index
+abbrev pub serial_of_index : ℕ → List FlatRow → Option ℕ
+serial_of_index a [] = None
+serial_of_index a (r ∷ rs) = elim (eqb r.index a) [ true ↦ Some r.serial | false ↦ serial_of_index a rs ]
 
 -- The indices of children, without the one with serial `skip`. A new
 -- one is put in before child number p - 1; p 0: none.
@@ -79,17 +72,26 @@ unfoldable pub word : ℕ → ℕ → ℕ → List FlatRow → List ℕ
 word p new skip [] = new_name p new
 word p new skip (r ∷ rs) = (new_name p new ++ kept_name skip r) ++ word (p - 1) new skip rs
 
--- the names v are stepped over
-pub record NamesStepped (ms : Members ℕ) (last : ℕ) (v : List ℕ) (fits : Bool) (after : ℕ) : Type 0 where
-  pub on : (w : List ℕ) → runs ms last (v ++ w) ≡ (fits && runs ms after w)
+-- the names w after the last one, where there is one
+abbrev pub runs_on : Members ℕ → Option ℕ → List ℕ → Bool
+runs_on ms None w = false
+runs_on ms (Some last) w = runs ms last w
+
+-- the names v are stepped over: the last of them, none where one of them may not follow
+pub record NamesStepped (ms : Members ℕ) (last : ℕ) (v : List ℕ) (after : Option ℕ) : Type 0 where
+  pub on : (w : List ℕ) → runs ms last (v ++ w) ≡ runs_on ms after w
+
+-- the rows of a sort right below row i
+unfoldable pub children_below : ℕ → Bytes → ℕ → ℕ → ℕ → List FlatRow
+children_below w rows count s i = children s (suc (read_row (record_at (row_size w) i rows)).depth) (rows_from w rows count (i + 1))
 
 -- ---- a row of a store, by its number
 abbrev pub row_in : Bytes → ℕ → Deep FlatRow
 row_in bs i = read_row (record_at (row_size (width_of bs)) i (tree_rows_in bs))
 
 -- the rows of a sort right below it
-unfoldable pub children_at : Bytes → ℕ → ℕ → List FlatRow
-children_at bs s i = children s (suc (row_in bs i).depth) (rows_from (width_of bs) (tree_rows_in bs) (row_count bs) (i + 1))
+abbrev pub children_at : Bytes → ℕ → ℕ → List FlatRow
+children_at bs s i = children_below (width_of bs) (tree_rows_in bs) (row_count bs) s i
 
 -- its definition's kind and model
 abbrev pub row_definition_kind : Bytes → ℕ → ℕ
@@ -108,10 +110,11 @@ pub record RowOf (bs : Bytes) (i : ℕ) : Type 0 where
   pub few : row_count bs ≤ 4096
   pub index : (row_in bs i).row.index ≤ 64
 
-pub record ParentAt (bs : Bytes) (k r : ℕ) : Type 0 where
+-- the number of the row right above the element row with serial k; none: there is no such row
+pub record ParentAt (bs : Bytes) (k : ℕ) (r : Option ℕ) : Type 0 where
   pub begins : Begins (width_of bs) (tree_rows_in bs) (row_count bs) r (seek (is_parent k) (rows_from (width_of bs) (tree_rows_in bs) (row_count bs) 0))
   pub few : row_count bs ≤ 4096
 
 -- it has at least n element children
-unfoldable pub has_place : Bytes → ℕ → ℕ → Bool
-has_place bs i n = elim (eqb n 0) [ true ↦ true | false ↦ not (eqb (serial_at (n - 1) (map serial_in (children_at bs 1 i))) 0) ]
+abbrev pub has_place : Bytes → ℕ → ℕ → Bool
+has_place bs i n = leb n (length (children_at bs 1 i))

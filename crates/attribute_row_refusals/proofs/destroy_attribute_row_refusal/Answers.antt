@@ -1,56 +1,69 @@
 -- `attribute_row_refusals::destroy_attribute_row_refusal` meets its contract by a law of AttributeRefusals for each
 -- return: a refusal of `attribute_refusal` (`drop_early`), 7 where the element has no row of the attribute (`drop_7`),
 -- and 15 if and only if the attribute is needed (`drop_last`).
-use mathlib.Core.Path.{◌∙◌}
+use mathlib.Core.Bool.{Bool}
+use mathlib.Core.List.{[], ◌∷◌}
+use mathlib.Core.Path.{◌∙◌, refl, sym, ap}
 use native.Mathlib.Omega.{arith}
+use Rattle.std.proofs.lemmas.Result.{err_from_is_err_and}
+use Rattle.rules.specs.Refusal.{◌if◌, first}
+use Rattle.rules.specs.declared.Refusal.TheVariants.{NoRow}
 use Rattle.store_check.proofs.StoreFacts.{Whole, whole}
 use Rattle.document_rows.proofs.ElementFacts.{element_there}
-use Rattle.document_rows.proofs.RowFacts.{row_of, there}
-use Rattle.attribute_row_refusals.proofs.AttributeRefusals.{needs_in, drop_early, drop_7, drop_last, both, known_of, inside}
-use borrow.Author.Rules.{rules}
+use Rattle.document_rows.proofs.RowFacts.{row_of}
+use Rattle.document_refusals.proofs.RefusalLaws.{some_number, refused_number}
+use Rattle.attribute_row_refusals.proofs.AttributeRefusals.{needs_in, drop_early, drop_7, drop_last, known_of, inside}
 use Rattle.attribute_row_refusals.proofs.destroy_attribute_row_refusal.Goals as goal
 
-pub returns-then-refusal-ne0 : goal.returns-then-refusal-ne0
-returns-then-refusal-ne0 c =
+pub returns-in_err-i : goal.returns-in_err-i
+returns-in_err-i c =
     let a = c.args in
-    (drop_early a.store.now (whole _ c.requires) a.attribute a.element c.attribute_refusal-refusal.ensures c.if-refusal-ne0.true).is
+    let p = err_from_is_err_and c.from_residual.result c.from_residual.ensures.1 in
+    rw (p.1, p.2)
+    (drop_early a.store.now (whole _ c.requires) a.attribute a.element c.in_err-i.ensures.refused (some_number _)).is
 
 pub attribute_row_serial-requires : goal.attribute_row_serial-requires
-attribute_row_serial-requires c =
+attribute_row_serial-requires c = row_of _ (whole _ c.requires) c.in_ok-i.ensures.row
+
+pub returns-in_err-ok_or : goal.returns-in_err-ok_or
+returns-in_err-ok_or c =
     let a = c.args in
     let w : Whole a.store.now = whole _ c.requires in
-    row_of _ w c.find_element-i.ensures (there _ w c.find_element-i.ensures (both _ w a.attribute c.attribute_refusal-refusal.ensures c.if-refusal-ne0.false).1)
+    let p = err_from_is_err_and c.from_residual-in_err-ok_or.result c.from_residual-in_err-ok_or.ensures.1 in
+    rw (p.1, p.2)
+    (refused_number NoRow c.in_err-ok_or.ensures.ok_part c.in_err-ok_or.ensures.value
+    ∙ (drop_7 a.store.now w a.attribute a.element c.in_ok-i.ensures.refused refl (element_there _ w _ c.in_ok-i.ensures.row)
+    c.attribute_row_serial.ensures c.in_err-ok_or.ensures.ok_part).is)
 
-pub returns-then-attribute_row_serial-eq0 : goal.returns-then-attribute_row_serial-eq0
-returns-then-attribute_row_serial-eq0 c =
-    let a = c.args in
-    let w : Whole a.store.now = whole _ c.requires in
-    let z = (both _ w a.attribute c.attribute_refusal-refusal.ensures c.if-refusal-ne0.false).1 in
-    (drop_7 a.store.now w a.attribute a.element c.attribute_refusal-refusal.ensures c.if-refusal-ne0.false
-    (element_there _ w _ _ c.find_element-i.ensures.begins (there _ w c.find_element-i.ensures z))
-    c.attribute_row_serial.ensures c.if-attribute_row_serial-eq0.true).is
+pub row_definition-d-requires : goal.row_definition-d-requires
+row_definition-d-requires c = let r = row_of _ (whole _ c.requires) c.in_ok-i.ensures.row in omega (arith, r.small, r.few)
 
-pub needs-needed-requires : goal.needs-needed-requires
-needs-needed-requires c =
+pub needs-requires : goal.needs-requires
+needs-requires c =
     let a = c.args in
     let w : Whole a.store.now = whole _ c.requires in (
       c.width_in-w.ensures.small,
-      omega (
-        arith,
-        w.few_attributes,
-        inside _ w a.attribute (known_of _ w a.attribute c.attribute_refusal-refusal.ensures c.if-refusal-ne0.false),
-      ),
+      omega (arith, w.few_attributes, inside _ w a.attribute (known_of _ w a.attribute c.in_ok-i.ensures.refused refl)),
     )
+
+pub returns-then-needs : goal.returns-then-needs
+returns-then-needs c =
+    let a = c.args in
+    let w : Whole a.store.now = whole _ c.requires in
+    sym (ap (λ (b : Bool). first (15 if b ∷ [])) c.if-needs.true)
+    ∙ (drop_last a.store.now w a.attribute a.element c.in_ok-i.ensures.refused refl (element_there _ w _ c.in_ok-i.ensures.row)
+    c.attribute_row_serial.ensures c.in_ok-ok_or.ensures.ok_part c.row_definition-d.ensures
+    (c.needs.ensures
+    ∙ needs_in a.store.now c.width_in-w.ensures.value c.attributes_of-attrs.ensures a.attribute
+    c.version_in-version.ensures.value c.row_definition-d.result)).is
 
 pub returns : goal.returns
 returns c =
     let a = c.args in
     let w : Whole a.store.now = whole _ c.requires in
-    let z = (both _ w a.attribute c.attribute_refusal-refusal.ensures c.if-refusal-ne0.false).1 in
-    (drop_last a.store.now w a.attribute a.element c.attribute_refusal-refusal.ensures c.if-refusal-ne0.false
-    (element_there _ w _ _ c.find_element-i.ensures.begins (there _ w c.find_element-i.ensures z))
-    c.attribute_row_serial.ensures c.if-attribute_row_serial-eq0.false c.row_definition-d.ensures
-    (c.needs-needed.ensures
+    sym (ap (λ (b : Bool). first (15 if b ∷ [])) c.if-needs.false)
+    ∙ (drop_last a.store.now w a.attribute a.element c.in_ok-i.ensures.refused refl (element_there _ w _ c.in_ok-i.ensures.row)
+    c.attribute_row_serial.ensures c.in_ok-ok_or.ensures.ok_part c.row_definition-d.ensures
+    (c.needs.ensures
     ∙ needs_in a.store.now c.width_in-w.ensures.value c.attributes_of-attrs.ensures a.attribute
-    c.version_in-version.ensures.value c.row_definition-d.result)
-    c.number_if.ensures).is
+    c.version_in-version.ensures.value c.row_definition-d.result)).is

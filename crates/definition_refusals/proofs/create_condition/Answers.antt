@@ -2,9 +2,7 @@
 -- `create_definition` in their order, and each return is the number of the first that holds, 0 where none does
 -- (`bad_name`, `bad_code`, `name_taken`, `name_free` of CreateConditions).
 use Rattle.definition_refusals.proofs.CreateConditions.{bad_name, bad_code, name_taken, name_free}
-use borrow.Author.Tests.{not-true, not-false}
 use native.Mathlib.Omega.{arith}
-use borrow.Author.Rules.{rules}
 use Rattle.definition_refusals.proofs.create_condition.Goals as goal
 
 pub returns-then-not-given_name : goal.returns-then-not-given_name

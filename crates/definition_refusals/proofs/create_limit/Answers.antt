@@ -3,7 +3,6 @@
 -- there is (`no_limit`).
 use Rattle.definition_refusals.proofs.CreateLimits.{at_ceiling, no_room, no_limit}
 use native.Mathlib.Omega.{arith}
-use borrow.Author.Rules.{rules}
 use Rattle.definition_refusals.proofs.create_limit.Goals as goal
 
 pub returns-then-definition_count-ge-MAX_DEFINITIONS : goal.returns-then-definition_count-ge-MAX_DEFINITIONS

@@ -3,7 +3,6 @@
 -- a model has the definition or a document is one of it (`used`), else 0 (`unused`).
 use Rattle.definition_refusals.proofs.DestroyConditions.{unknown, used, unused}
 use native.Mathlib.Omega.{arith}
-use borrow.Author.Rules.{rules}
 use Rattle.definition_refusals.proofs.destroy_condition.Goals as goal
 
 pub returns-then-i-definition_count : goal.returns-then-i-definition_count

@@ -2,7 +2,6 @@
 -- without definition i, which is above the room (`short_room` of DestroyLimits) or not (`enough_room`).
 use Rattle.definition_refusals.proofs.DestroyLimits.{short_room, enough_room}
 use native.Mathlib.Omega.{arith}
-use borrow.Author.Rules.{rules}
 use Rattle.definition_refusals.proofs.destroy_limit.Goals as goal
 
 pub returns-then-through_rows-room : goal.returns-then-through_rows-room

@@ -1,7 +1,6 @@
 -- `definition_removal::attribute_start` meets its contract: the width, the count and the body that are read are the
 -- store's, so the answer of `attributes_below` is the number for the store's attributes (`attribute_starts` of Left).
 use Rattle.definition_removal.proofs.Left.{attribute_starts}
-use borrow.Author.Rules.{rules}
 use Rattle.definition_removal.proofs.attribute_start.Goals as goal
 
 pub returns : goal.returns

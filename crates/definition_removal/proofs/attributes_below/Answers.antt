@@ -1,10 +1,8 @@
 -- `definition_removal::attributes_below` meets its contract: the loop's invariant holds at first (`counting_start` of
 -- Moving) and after each attribute (`counting_on`), and where none is left `sum` is the number asked for
 -- (`counting_end`); by the invariant `sum` is at most j, so that it is in range.
-use Rattle.definition_removal.proofs.Moving.{Counting, counting_start, counting_on, counting_end}
-use borrow.Author.Rules.{rules}
+use Rattle.definition_removal.proofs.Moving.{counting_start, counting_on, counting_end}
 use native.Mathlib.Omega.{arith}
-use Prim.Native.Nat.{◌-◌}
 use Rattle.definition_removal.proofs.attributes_below.Goals as goal
 
 pub loop-j-init : goal.loop-j-init

@@ -3,7 +3,6 @@
 -- (`attributes_left` of Left).
 use Rattle.definition_removal.proofs.Left.{attributes_left}
 use native.Mathlib.Omega.{arith}
-use borrow.Author.Rules.{rules}
 use Rattle.definition_removal.proofs.attributes_left.Goals as goal
 
 pub count_left-requires : goal.count_left-requires

@@ -1,15 +1,14 @@
 -- `definition_removal::has_root` meets its contract: the loop is the search of Searching in `lookup`: it begins with
 -- all rows (`searching_start`), a document of the definition ends it with true (`searching_hit`), any other row is
 -- passed (`searching_on`), and past the last the answer is false (`searching_end`).
-use Rattle.lookup.proofs.Searching.{Searching, searching_start, searching_hit, searching_on, searching_end}
+use Rattle.lookup.proofs.Searching.{searching_start, searching_hit, searching_on, searching_end}
 use Rattle.definition_removal.specs.Bodies.{is_root}
 use Rattle.rules.specs.Layout.{row_size}
 use Rattle.rules.specs.Decode.{read_row}
-use borrow.Author.Rules.{rules}
 use mathlib.Core.List.{List}
 use mathlib.Core.Path.{ap, ◌∙◌}
 use native.Mathlib.Omega.{arith}
-use Prim.Native.Nat.{ℕ, ◌-◌}
+use Prim.Native.Nat.{ℕ}
 use Rattle.definition_removal.proofs.has_root.Goals as goal
 
 pub loop-i-init : goal.loop-i-init

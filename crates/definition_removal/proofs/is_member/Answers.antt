@@ -4,7 +4,6 @@ use lib.Dec.{eqb}
 use mathlib.Core.Bool.{◌&&◌}
 use Prim.Native.Nat.{ℕ}
 use mathlib.Core.Path.{ap₂}
-use borrow.Author.Rules.{rules}
 use Rattle.definition_removal.proofs.is_member.Goals as goal
 
 pub returns : goal.returns

@@ -2,7 +2,6 @@
 -- and the index that the three readers give by their contracts.
 use lib.Dec.{eqb}
 use mathlib.Core.Bool.{◌&&◌}
-use borrow.Author.Rules.{rules}
 use Rattle.definition_removal.proofs.is_root.Goals as goal
 
 pub returns : goal.returns

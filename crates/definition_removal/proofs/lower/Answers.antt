@@ -2,7 +2,6 @@
 -- one below `from` stays (`lower_low`).
 use Rattle.definition_removal.proofs.Moving.{lower_high, lower_low}
 use native.Mathlib.Omega.{arith}
-use borrow.Author.Rules.{rules}
 use Rattle.definition_removal.proofs.lower.Goals as goal
 
 pub returns-then-index-from : goal.returns-then-index-from

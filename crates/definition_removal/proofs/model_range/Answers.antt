@@ -8,7 +8,6 @@ use Rattle.lookup.specs.Bodies.{bodies_of}
 use Rattle.rules.specs.Decode.{particle_count}
 use native.Mathlib.Omega.{arith}
 use Prim.Native.Nat.{ℕ}
-use borrow.Author.Rules.{rules}
 use Rattle.definition_removal.proofs.model_range.Goals as goal
 
 pub overflow_add-i : goal.overflow_add-i

@@ -4,7 +4,6 @@
 use Rattle.definition_removal.proofs.Left.{model_starts}
 use Rattle.store_laws.proofs.Encoded.{encoded}
 use native.Mathlib.Omega.{arith}
-use borrow.Author.Rules.{rules}
 use Rattle.definition_removal.proofs.model_start.Goals as goal
 
 pub particles_before-requires : goal.particles_before-requires

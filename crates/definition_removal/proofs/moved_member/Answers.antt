@@ -3,7 +3,6 @@
 use Rattle.definition_removal.proofs.Moving.{member_moved_lem, member_stays}
 use Rattle.definition_removal.specs.Bodies.{lowered}
 use Prim.Native.Nat.{suc}
-use borrow.Author.Rules.{rules}
 use Rattle.definition_removal.proofs.moved_member.Goals as goal
 
 pub returns-then-sort-eq0 : goal.returns-then-sort-eq0

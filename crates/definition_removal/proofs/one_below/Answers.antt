@@ -2,7 +2,6 @@
 -- (`below_yes` of Moving), and 0 where it is not (`below_no`).
 use Rattle.definition_removal.proofs.Moving.{below_yes, below_no}
 use native.Mathlib.Omega.{arith}
-use borrow.Author.Rules.{rules}
 use Rattle.definition_removal.proofs.one_below.Goals as goal
 
 pub returns-then-owner-i : goal.returns-then-owner-i

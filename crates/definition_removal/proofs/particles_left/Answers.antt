@@ -3,7 +3,6 @@
 -- (`models_left` of Left).
 use Rattle.definition_removal.proofs.Left.{models_left}
 use native.Mathlib.Omega.{arith}
-use borrow.Author.Rules.{rules}
 use Rattle.definition_removal.proofs.particles_left.Goals as goal
 
 pub count_left-requires : goal.count_left-requires

@@ -3,7 +3,6 @@
 use Rattle.definition_removal.proofs.Moving.{attribute_laid}
 use Rattle.definition_removal.specs.Bodies.{lowered}
 use Prim.Native.Nat.{suc}
-use borrow.Author.Rules.{rules}
 use Rattle.definition_removal.proofs.put_attribute.Goals as goal
 
 pub returns : goal.returns

@@ -1,14 +1,13 @@
 -- `definition_removal::put_attributes` meets its contract: the loop's invariant holds at first (`going_start` of Again)
 -- and after each attribute (`going_on`), and where none is left all are written (`going_end`); the length of a record
 -- is bounded (`attribute_short`), so that the places are in range.
-use Rattle.definition_removal.proofs.Again.{Going, going_start, going_on, going_end, attribute_short}
+use Rattle.definition_removal.proofs.Again.{going_start, going_on, going_end, attribute_short}
 use Rattle.definition_removal.specs.Bodies.{lowered, attribute_record}
 use Rattle.rules.specs.Layout.{attribute_size}
-use borrow.Author.Rules.{rules}
 use lib.ListN.{length, drop, length-take}
 use mathlib.Core.Path.{ap}
 use native.Mathlib.Omega.{arith}
-use Prim.Native.Nat.{suc, ◌-◌, ◌*◌}
+use Prim.Native.Nat.{suc, ◌*◌}
 use Rattle.definition_removal.proofs.put_attributes.Goals as goal
 
 pub loop-i-init : goal.loop-i-init

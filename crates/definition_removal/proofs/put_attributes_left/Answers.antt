@@ -8,7 +8,6 @@ use Rattle.definition_removal.specs.Bodies.{attribute_record, lowered}
 use Rattle.rules.specs.Layout.{attribute_size}
 use native.Mathlib.Omega.{arith}
 use Prim.Native.Nat.{suc}
-use borrow.Author.Rules.{rules}
 use Rattle.definition_removal.proofs.put_attributes_left.Goals as goal
 
 pub put_attributes-next-requires : goal.put_attributes-next-requires

@@ -8,7 +8,6 @@ use mathlib.Core.Path.{ap}
 use native.Mathlib.Omega.{arith}
 use Rattle.rules.specs.Layout.{definition_size}
 use Prim.Native.Nat.{◌+◌, ◌*◌}
-use borrow.Author.Rules.{rules}
 use Rattle.definition_removal.proofs.put_definitions_left.Goals as goal
 
 pub definitions_from-requires : goal.definitions_from-requires

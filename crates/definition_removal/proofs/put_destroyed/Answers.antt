@@ -3,7 +3,6 @@
 -- (`after_header`, `after_definitions`, `after_particles`, `after_attributes`).
 use native.Mathlib.Omega.{arith}
 use Rattle.definition_removal.proofs.LeftBytes.{destroyed_laid, after_header, after_definitions, after_particles, after_attributes}
-use borrow.Author.Rules.{rules}
 use Rattle.definition_removal.proofs.put_destroyed.Goals as goal
 
 pub put_definitions_left-second-requires : goal.put_definitions_left-second-requires

@@ -4,7 +4,6 @@
 use Rattle.definition_removal.proofs.Left.{header_left_lem}
 use Rattle.store_laws.proofs.Encoded.{encoded}
 use native.Mathlib.Omega.{arith}
-use borrow.Author.Rules.{rules}
 use Rattle.definition_removal.proofs.put_header_left.Goals as goal
 
 pub put_header-requires : goal.put_header-requires

@@ -3,7 +3,6 @@
 use Rattle.definition_removal.proofs.Moving.{particle_laid}
 use Rattle.definition_removal.specs.Bodies.{lowered}
 use Prim.Native.Nat.{suc}
-use borrow.Author.Rules.{rules}
 use Rattle.definition_removal.proofs.put_particle.Goals as goal
 
 pub returns : goal.returns

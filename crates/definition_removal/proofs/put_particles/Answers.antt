@@ -1,12 +1,11 @@
 -- `definition_removal::put_particles` meets its contract: the loop's invariant holds at first (`going_start` of Again)
 -- and after each particle (`going_on`), and where none is left all are written (`going_end`); the length of a record is
 -- bounded (`particle_short`), so that the places are in range.
-use Rattle.definition_removal.proofs.Again.{Going, going_start, going_on, going_end, particle_short}
+use Rattle.definition_removal.proofs.Again.{going_start, going_on, going_end, particle_short}
 use Rattle.definition_removal.specs.Bodies.{lowered, particle_record}
 use Rattle.rules.specs.Layout.{particle_size}
-use borrow.Author.Rules.{rules}
 use native.Mathlib.Omega.{arith}
-use Prim.Native.Nat.{suc, ◌-◌}
+use Prim.Native.Nat.{suc}
 use Rattle.definition_removal.proofs.put_particles.Goals as goal
 
 pub loop-i-init : goal.loop-i-init

@@ -8,7 +8,6 @@ use Rattle.definition_removal.specs.Bodies.{particle_record, lowered}
 use Rattle.rules.specs.Layout.{particle_size}
 use native.Mathlib.Omega.{arith}
 use Prim.Native.Nat.{suc}
-use borrow.Author.Rules.{rules}
 use Rattle.definition_removal.proofs.put_particles_left.Goals as goal
 
 pub put_particles-next-requires : goal.put_particles-next-requires

@@ -9,7 +9,6 @@ use mathlib.Core.List.{[]}
 use Rattle.row_walk.specs.declared.Plan.{Plan}
 use Rattle.planned_rows.specs.Walking.{Sized}
 use Rattle.definition_removal.proofs.LeftBytes.{rows_laid}
-use borrow.Author.Rules.{rules}
 use Rattle.rules.proofs.WellFormedLaws.{none_value}
 use Rattle.definition_removal.proofs.put_rows_left.Goals as goal
 

@@ -5,7 +5,6 @@ use mathlib.Core.Bool.{not}
 use native.Mathlib.Omega.{arith}
 use Rattle.store_check.proofs.StoreFacts.{whole}
 use Rattle.document_refusals.proofs.RefusalLaws.{document_3, document_6, document_0}
-use borrow.Author.Rules.{rules}
 use Rattle.document_refusals.proofs.add_document_refusal.Goals as goal
 
 pub returns-then-not-is_value : goal.returns-then-not-is_value

@@ -9,7 +9,12 @@ ghost use Rattle.rules.specs.Given.{AnswersBy};
 use rules::Refusal;
 
 /// Change 1: creates a definition, the last.
-pub fn create_definition(store: &[u8], name: &[u8], kind: u32, out: &mut [u8]) -> Result<usize, Refusal>
+pub fn create_definition(
+    store: &[u8],
+    name: &[u8],
+    kind: u32,
+    out: &mut [u8],
+) -> Result<usize, Refusal>
     ensures { AnswersBy (outcome (create_definition name.now kind) store.now (length out.old)) out.old result out.new }
 {
     if !store_check::passes(store) {

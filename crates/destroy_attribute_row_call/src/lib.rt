@@ -10,7 +10,12 @@ ghost use Rattle.rules.specs.Given.{AnswersBy};
 use rules::Refusal;
 
 /// 15: destroys the row of an attribute of an element.
-pub fn destroy_attribute_row(store: &[u8], element: u32, attribute: u32, out: &mut [u8]) -> Result<usize, Refusal>
+pub fn destroy_attribute_row(
+    store: &[u8],
+    element: u32,
+    attribute: u32,
+    out: &mut [u8],
+) -> Result<usize, Refusal>
     ensures { AnswersBy (outcome (destroy_attribute_row element attribute) store.now (length out.old)) out.old result out.new }
 {
     if !store_check::passes(store) {

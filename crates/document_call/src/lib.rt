@@ -9,7 +9,12 @@ ghost use Rattle.rules.specs.Given.{AnswersBy};
 use rules::Refusal;
 
 /// 11: a new last document, the filling of a definition.
-pub fn add_document(store: &[u8], definition: u32, text: &[u8], out: &mut [u8]) -> Result<usize, Refusal>
+pub fn add_document(
+    store: &[u8],
+    definition: u32,
+    text: &[u8],
+    out: &mut [u8],
+) -> Result<usize, Refusal>
     ensures { AnswersBy (outcome (add_document definition text.now) store.now (length out.old)) out.old result out.new }
 {
     if !store_check::passes(store) {

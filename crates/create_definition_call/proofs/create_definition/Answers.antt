@@ -11,6 +11,7 @@ use Rattle.lookup.specs.Bodies.{bodies_of}
 use Rattle.rules.specs.Change.{create_definition}
 use mathlib.Core.Path.{refl, sym, ◌∙◌, ap}
 use lib.ListN.{length}
+use Rattle.store_limits.proofs.GivenLaws.{refusal_some}
 use Rattle.std.proofs.lemmas.Result.{err_from_is_err_and}
 use Rattle.create_definition_call.proofs.create_definition.Goals as goal
 
@@ -36,7 +37,7 @@ create_limit-requires c =
 
 pub returns-in_err-create_limit : goal.returns-in_err-create_limit
 returns-in_err-create_limit c =
-    let passed_on = err_from_is_err_and c.from_residual.result c.from_residual.ensures.1 in
+    let passed_on = err_from_is_err_and c.from_residual-in_err-create_limit.result c.from_residual-in_err-create_limit.ensures.1 in
     rw (passed_on.1, passed_on.2)
     (let p = passed c.args.store.now (ap not c.if-not-passes.false) c.passes.ensures in
     let z = sym c.in_ok-create_condition.ensures in
@@ -44,7 +45,7 @@ returns-in_err-create_limit c =
     c.in_ok-create_condition.ensures refl (created c.args.name.now c.args.kind (bodies_of c.args.store.now))
     (flat_after_create c.args.store.now c.args.name.now c.args.kind p
     (fresh c.args.store.now c.args.name.now c.args.kind p z).kind)
-    _ _ c.in_err-create_limit.field-0.0 c.in_err-create_limit.ensures)
+    _ _ c.in_err-create_limit.ensures (refusal_some c.in_err-create_limit.field-0.0))
 
 pub put_created-length-requires : goal.put_created-length-requires
 put_created-length-requires c =

@@ -11,6 +11,7 @@ use Rattle.lookup.specs.Bodies.{bodies_of}
 use Rattle.rules.specs.Change.{destroy_definition}
 use mathlib.Core.Path.{refl, sym, ◌∙◌, ap}
 use lib.ListN.{length}
+use Rattle.store_limits.proofs.GivenLaws.{refusal_some}
 use Rattle.std.proofs.lemmas.Result.{err_from_is_err_and}
 use Rattle.destroy_definition_call.proofs.destroy_definition.Goals as goal
 
@@ -37,12 +38,12 @@ destroy_limit-requires c =
 
 pub returns-in_err-destroy_limit : goal.returns-in_err-destroy_limit
 returns-in_err-destroy_limit c =
-    let passed_on = err_from_is_err_and c.from_residual.result c.from_residual.ensures.1 in
+    let passed_on = err_from_is_err_and c.from_residual-in_err-destroy_limit.result c.from_residual-in_err-destroy_limit.ensures.1 in
     rw (passed_on.1, passed_on.2)
     (let p = passed c.args.store.now (ap not c.if-not-passes.false) c.passes.ensures in
     answers_limit (destroy_definition c.args.definition) c.args.store.now c.args.out.now p _ c.in_ok-destroy_condition.ensures refl (destroyed c.args.definition (bodies_of c.args.store.now))
     (flat_after_destroy c.args.store.now c.args.definition p (sym c.in_ok-destroy_condition.ensures)) _ _
-    c.in_err-destroy_limit.field-0.0 c.in_err-destroy_limit.ensures)
+    c.in_err-destroy_limit.ensures (refusal_some c.in_err-destroy_limit.field-0.0))
 
 pub put_destroyed-left-requires : goal.put_destroyed-left-requires
 put_destroyed-left-requires c =

@@ -9,13 +9,15 @@ use mathlib.Core.List.{List, [], ◌∷◌, ◌++◌, append_assoc, append-nil}
 use lib.Dec.{eqb, ltb}
 use lib.ListN.{length, take, drop, get_or, length-take, length-drop}
 use Rattle.rules.specs.declared.GroupKind.{GroupKind}
+use Rattle.rules.specs.contracts.GroupKind.{the_type}
+use denote.Enum.Bare.{sameb}
 use Rattle.rules.specs.declared.GroupKind.TheVariants.{Sequence, Choice}
 use Rattle.rules.specs.declared.Quantifier.{Quantifier}
 use Rattle.rules.specs.Bytes.{Bytes}
 use Rattle.rules.specs.Model.{Members, done, el, group, skips, both, neutral, nothing, unless, beside, filling}
 use Rattle.rules.specs.Preorder.{Deep}
 use Rattle.rules.specs.Layout.{attribute_size, FlatRow}
-use Rattle.rules.specs.Decode.{quantifier_of, read_particle, read_attribute, sort_of}
+use Rattle.rules.specs.Decode.{quantifier_of, group_of, read_particle, read_attribute, sort_of}
 use Rattle.rules.specs.Store.{AttributeSort}
 use Rattle.rules.specs.Conforming.{must_be_present}
 use Rattle.rules.specs.Filling.{created_value}
@@ -314,18 +316,14 @@ module _ (d : ℕ) (s : Bytes) (b : Bool) (e : b ≡ skips (quantifier_of (get_o
       inside_told k x = let z : skips (quantifier_of (get_or s particle_quantifier_at 0)) ≡ false = sym e ∙ q in
           rw z (x ∙ ap₂ (λ (n : ℕ) (y : Bytes). nothing k (members_from n y)) (add-one d) (tail_seen s particle_size))
 
-      pub absent_list : sort ≡ 1 → u ≡ nothing Sequence (members_from (d + 1) (take (length s - particle_size) (drop particle_size s))) → u ≡ member_nothing d s
-      absent_list x y = inside_told Sequence y ∙ sym (by_sort ∙ rw x)
-
-      pub absent_choice : (sort ≡ 0 → ⊥) → (sort ≡ 1 → ⊥) → u ≡ nothing Choice (members_from (d + 1) (take (length s - particle_size) (drop particle_size s))) → u ≡ member_nothing d s
-      absent_choice x y p = by sort x y by_sort
+      pub absent_group : (k : GroupKind) → (sort ≡ 0 → ⊥) → k ≡ group_of sort → u ≡ nothing k (members_from (d + 1) (take (length s - particle_size) (drop particle_size s))) → u ≡ member_nothing d s
+      absent_group k x g p = by sort x g by_sort
         where
-          by : (n : ℕ) → (n ≡ 0 → ⊥) → (n ≡ 1 → ⊥)
+          by : (n : ℕ) → (n ≡ 0 → ⊥) → k ≡ group_of n
               → member_nothing d s ≡ sort_nothing (quantifier_of (get_or s particle_quantifier_at 0)) n (members_from (suc d) (drop particle_size s))
               → u ≡ member_nothing d s
-          by zero x y r = absurd (x refl)
-          by (suc zero) x y r = absurd (y refl)
-          by (suc (suc n)) x y r = inside_told Choice p ∙ sym r
+          by zero x g r = absurd (x refl)
+          by (suc n) x g r = inside_told (group_of (suc n)) (p ∙ ap (λ (z : GroupKind). nothing z (members_from (d + 1) (take (length s - particle_size) (drop particle_size s)))) g) ∙ sym r
 
 -- ---- one particle, p, and its members
 module _ (d : ℕ) (s : Bytes) (p : Particle) (e : p ≡ particle_of (read_particle s)) where
@@ -610,6 +608,15 @@ list_filled ms = by (nothing Sequence ms) refl
     by : (b : Bool) → nothing Sequence ms ≡ b → unless b (filling Sequence ms) ≡ filling Sequence ms
     by true e = sym (list_nothing ms e)
     by false e = refl
+
+-- a kind by the answer of `==`
+pub kind_choice : (k : GroupKind) → true ≡ sameb the_type k Choice → k ≡ Choice
+kind_choice Sequence e = absurd (false≢true (sym e))
+kind_choice Choice e = refl
+
+pub kind_list : (k : GroupKind) → false ≡ sameb the_type k Choice → k ≡ Sequence
+kind_list Sequence e = refl
+kind_list Choice e = absurd (false≢true e)
 
 module _ (k : GroupKind) (ms : Members ℕ) where
   pub filled_list : k ≡ Sequence → group_filled k ms ≡ unless false (filling k ms)

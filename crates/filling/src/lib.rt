@@ -17,7 +17,7 @@ ghost use Rattle.rules.specs.Layout.{particle_size};
 use layout::{Form, PARTICLE_SIZE};
 use model::What;
 use row_writer::Cursor;
-use rules::GroupKind;
+use rules::{GroupKind, Quantifier};
 
 /// What a change fills with: nothing, a definition by its index, one row of an attribute by its index, or a group of a
 /// kind by the number of its first member in the particle body and the depth of its members.
@@ -33,21 +33,14 @@ pub enum Filling {
 fn is_optional(t: &[u8]) -> bool
     ensures { result ≡ skips (quantifier_of (get_or t.now particle_quantifier_at 0)) }
 {
-    match layout::particle_quantifier(t) {
-        1 => true,
-        2 => true,
-        _ => false,
-    }
+    model::skips(Quantifier::from(layout::particle_quantifier(t)))
 }
 
 // Whether the particle that t begins with may be left out of a group of a kind with no look at the members after it.
 fn is_left_out(t: &[u8], kind: GroupKind) -> bool
     ensures { result ≡ left_out kind (quantifier_of (get_or t.now particle_quantifier_at 0)) }
 {
-    match kind {
-        GroupKind::Sequence => is_optional(t),
-        GroupKind::Choice => false,
-    }
+    kind == GroupKind::Sequence && is_optional(t)
 }
 
 // Whether a group of a kind with members of depth d goes past the particle of depth `own` that t begins with.
@@ -62,10 +55,7 @@ fn is_passed(t: &[u8], own: usize, d: usize, kind: GroupKind) -> bool
 fn nothing_of_none(kind: GroupKind) -> bool
     ensures { result ≡ neutral kind }
 {
-    match kind {
-        GroupKind::Sequence => true,
-        GroupKind::Choice => false,
-    }
+    kind == GroupKind::Sequence
 }
 
 // Whether a member that accepts nothing, or does not, settles it for its group.
@@ -87,11 +77,11 @@ fn member_accepts_nothing(t: &[u8], d: usize) -> bool
     if is_optional(t) {
         return true;
     }
-    match layout::particle_sort(t) {
-        0 => false,
-        1 => accepts_nothing(&t[PARTICLE_SIZE..], d + 1, GroupKind::Sequence),
-        _ => accepts_nothing(&t[PARTICLE_SIZE..], d + 1, GroupKind::Choice),
+    let sort = layout::particle_sort(t);
+    if sort == 0 {
+        return false;
     }
+    accepts_nothing(&t[PARTICLE_SIZE..], d + 1, GroupKind::from(sort))
 }
 
 // Whether a group of the members of depth d that s begins with accepts
@@ -127,20 +117,14 @@ fn fills_nothing(s: &[u8], d: usize, kind: GroupKind) -> bool
     requires { d ≤ 256 }
     ensures { group_filled kind (members_from d s.now) ≡ unless result (filling kind (members_from d s.now)) }
 {
-    match kind {
-        GroupKind::Sequence => false,
-        GroupKind::Choice => accepts_nothing(s, d, GroupKind::Choice),
-    }
+    kind == GroupKind::Choice && accepts_nothing(s, d, GroupKind::Choice)
 }
 
 // Whether the particle that t begins with is an element that must be there.
 fn is_needed(t: &[u8]) -> bool
     ensures { result ≡ element_needed (get_or t.now particle_sort_at 0) (quantifier_of (get_or t.now particle_quantifier_at 0)) }
 {
-    match layout::particle_sort(t) {
-        0 => !is_optional(t),
-        _ => false,
-    }
+    layout::particle_sort(t) == 0 && !is_optional(t)
 }
 
 // Whether no element among the members of depth d that s begins with, and below them, must be there: then a group of
@@ -268,13 +252,8 @@ fn put_member(
             if needs_no_element(t, d + 1) {
                 return;
             }
-            match k {
-                GroupKind::Sequence => {}
-                GroupKind::Choice => {
-                    if accepts_nothing(t, d + 1, GroupKind::Choice) {
-                        return;
-                    }
-                }
+            if k == GroupKind::Choice && accepts_nothing(t, d + 1, GroupKind::Choice) {
+                return;
             }
             put_group(t, d + 1, k, form, text, h, depth, c, out)
         }

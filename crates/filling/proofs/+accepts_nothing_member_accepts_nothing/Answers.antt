@@ -1,6 +1,6 @@
 -- `filling::accepts_nothing` and `filling::member_accepts_nothing` meet their contracts: a member is judged by its
--- quantifier (`absent_skips` of FillingLaws), as an element (`absent_element`), or as a LIST or CHOICE by its members
--- (`absent_list`, `absent_choice`). In `accepts_nothing` the invariant holds at first (`unsettled_starts`); a particle
+-- quantifier (`absent_skips` of FillingLaws), as an element (`absent_element`), or as a group by its members
+-- (`absent_group`). In `accepts_nothing` the invariant holds at first (`unsettled_starts`); a particle
 -- that the group goes past is passed (`unsettled_past`), any other is a member (`unsettled_here`), which settles the
 -- answer (`unsettled_by`) or leaves it to those after it (`unsettled_on`); a particle outside the group or the end of s
 -- gives the answer of no members (`unsettled_over`, `unsettled_ends`). In a group there are fewer particles, so the
@@ -8,7 +8,7 @@
 use native.Mathlib.Omega.{arith}
 use lib.ListN.{length, drop, length-take, length-drop}
 use Rattle.filling.proofs.FillingLaws.{unsettled_starts, unsettled_ends, unsettled_over, unsettled_past, unsettled_here, unsettled_by}
-use Rattle.filling.proofs.FillingLaws.{unsettled_on, absent_skips, absent_element, absent_list, absent_choice}
+use Rattle.filling.proofs.FillingLaws.{unsettled_on, absent_skips, absent_element, absent_group}
 use Prim.Native.Nat.{◌-◌}
 use Rattle.rules.specs.Layout.{particle_size}
 use Rattle.filling.proofs.+accepts_nothing_member_accepts_nothing.Goals as goal
@@ -63,24 +63,13 @@ member_accepts_nothing-accepts_nothing-requires t c =
     let s = c.args.t.now in
     (omega (arith, length-take (length s - particle_size) (drop particle_size s), length-drop particle_size s), omega arith)
 
-pub member_accepts_nothing-accepts_nothing-requires-in_default : goal.member_accepts_nothing-accepts_nothing-requires-in_default
-member_accepts_nothing-accepts_nothing-requires-in_default t c =
-    let s = c.args.t.now in
-    (omega (arith, length-take (length s - particle_size) (drop particle_size s), length-drop particle_size s), omega arith)
-
-pub member_accepts_nothing-returns-in-0 : goal.member_accepts_nothing-returns-in-0
-member_accepts_nothing-returns-in-0 t c =
+pub member_accepts_nothing-returns-then-sort-eq0 : goal.member_accepts_nothing-returns-then-sort-eq0
+member_accepts_nothing-returns-then-sort-eq0 t c =
     let a = c.args in
-    absent_element a.d a.t.now _ c.is_optional.ensures c.if-is_optional.false _ c.particle_sort.ensures c.in-0.is
+    absent_element a.d a.t.now _ c.is_optional.ensures c.if-is_optional.false _ c.particle_sort-sort.ensures c.if-sort-eq0.true
 
-pub member_accepts_nothing-returns-in-1 : goal.member_accepts_nothing-returns-in-1
-member_accepts_nothing-returns-in-1 t c =
+pub member_accepts_nothing-returns : goal.member_accepts_nothing-returns
+member_accepts_nothing-returns t c =
     let a = c.args in
-    absent_list a.d a.t.now _ c.is_optional.ensures c.if-is_optional.false
-    _ c.particle_sort.ensures _ c.in-1.is c.accepts_nothing.ensures
-
-pub member_accepts_nothing-returns-in_default : goal.member_accepts_nothing-returns-in_default
-member_accepts_nothing-returns-in_default t c =
-    let a = c.args in
-    absent_choice a.d a.t.now _ c.is_optional.ensures c.if-is_optional.false _ c.particle_sort.ensures _
-    (omega arith) (omega arith) c.accepts_nothing-in_default.ensures
+    absent_group a.d a.t.now _ c.is_optional.ensures c.if-is_optional.false _ c.particle_sort-sort.ensures _ _
+    c.if-sort-eq0.false c.from.ensures c.accepts_nothing.ensures

@@ -17,13 +17,13 @@ use Rattle.row_writer.proofs.WrittenLaws.{written_stop, written_room}
 use Rattle.filling.proofs.FillingLaws.{rest_starts, rest_past, rest_here, rest_on, rest_first, rest_over, rest_ends, member_skips, member_element}
 use Rattle.filling.proofs.FillingLaws.{member_empty, member_nothing_lem, member_group, definition_low, definition_written, below_none, below_text, below_group}
 use Rattle.filling.proofs.FillingLaws.{none_written, one_written, same_written, index_small, rank_particles, rank_part, rank_height}
-use Rattle.filling.proofs.FillingLaws.{part_short, below_nothing, filled_list, filled_choice}
+use Rattle.filling.proofs.FillingLaws.{part_short, below_nothing, filled_list, filled_choice, kind_choice, kind_list}
 use Rattle.filling.proofs.NeededLaws.{no_element_filled}
 use native.Mathlib.Omega.{arith}
 use Prim.Native.Nat.{◌<◌, ◌+◌, ◌-◌, ◌*◌}
 use Rattle.rules.specs.Layout.{particle_size}
 use Rattle.filling.proofs.+put_below_put_definition_put_group_put_member.Goals as goal
-use Rattle.filling.proofs.+put_below_put_definition_put_group_put_member.Goals.{put_member-in-Sequence, put_member-in-Choice+else-accepts_nothing}
+use Rattle.filling.proofs.+put_below_put_definition_put_group_put_member.Goals.{put_member-else-eq-via-then-eq+else-accepts_nothing, put_member-else-eq-via-else-eq}
 
 pub put_below-put_new-requires : goal.put_below-put_new-requires
 put_below-put_new-requires t c =
@@ -181,7 +181,7 @@ put_member-returns-then-accepts_nothing t c =
     let a = c.args in
     none_written a.form.now a.text.now a.h a.depth _
     (member_nothing_lem a.d a.s.now _ c.read_particle-p.ensures _ c.skips.ensures c.if-skips.false _ _
-    c.in-Group.is _ refl _ (filled_choice _ _ c.in-Choice.is c.accepts_nothing.ensures) c.if-accepts_nothing.true)
+    c.in-Group.is _ refl _ (filled_choice _ _ (kind_choice _ c.if-eq.ensures) c.accepts_nothing.ensures) c.if-accepts_nothing.true)
 
 pub put_member-put_group-requires : goal.put_member-put_group-requires
 put_member-put_group-requires t c =
@@ -204,14 +204,14 @@ put_member-returns-in-Element t c =
     c.put_definition.ensures
 
 -- the group is a LIST, or a CHOICE that does not accept nothing
-pub put_member-returns-after-k : goal.put_member-returns-after-k
-put_member-returns-after-k t c =
+pub put_member-returns-else-eq : goal.put_member-returns-else-eq
+put_member-returns-else-eq t c =
     let a = c.args in
     same_written a.form.now a.text.now a.h a.depth _ _
-    (elim c.match-k.branch [
-      | put_member-in-Sequence w ↦ member_group a.d a.s.now _ c.read_particle-p.ensures _ c.skips.ensures c.if-skips.false _ _
-          c.in-Group.is _ refl false (filled_list _ _ w.in-Sequence.is) refl
-      | put_member-in-Choice+else-accepts_nothing w ↦ member_group a.d a.s.now _ c.read_particle-p.ensures _ c.skips.ensures c.if-skips.false _ _
-          c.in-Group.is _ refl _ (filled_choice _ _ w.in-Choice.is w.accepts_nothing.ensures) w.if-accepts_nothing.false
+    (elim c.else-eq.branch [
+      | put_member-else-eq-via-else-eq w ↦ member_group a.d a.s.now _ c.read_particle-p.ensures _ c.skips.ensures c.if-skips.false _ _
+          c.in-Group.is _ refl false (filled_list _ _ (kind_list _ w.if-eq.ensures)) refl
+      | put_member-else-eq-via-then-eq+else-accepts_nothing w ↦ member_group a.d a.s.now _ c.read_particle-p.ensures _ c.skips.ensures c.if-skips.false _ _
+          c.in-Group.is _ refl _ (filled_choice _ _ (kind_choice _ w.if-eq.ensures) w.accepts_nothing.ensures) w.if-accepts_nothing.false
     ])
     c.put_group.ensures

@@ -2,42 +2,46 @@
 use Prim.Native.Nat.{ℕ, ◌+◌, ◌≤◌, ◌<◌}
 use native.Mathlib.Numerals.{add-one}
 use native.Mathlib.Omega.{arith}
-use mathlib.Core.Path.{◌≡◌, sym, ap, ap₂, ◌∙◌}
-use mathlib.Core.Bool.{Bool, true, false, ◌&&◌, and-true}
+use mathlib.Core.List.{List, [], ◌∷◌}
+use Rattle.std.specs.List.{list_all}
+use mathlib.Core.Path.{◌≡◌, refl, sym, ap, ap₂, ◌∙◌}
+use mathlib.Core.Bool.{Bool, true, false, ◌&&◌}
 use lib.ListN.{length, take, drop, get_or, length-drop, take-append-drop, drop_of_length-le}
 use lib.Seq.{drop-cons, take_all, take-add, take-take}
 use Rattle.rules.specs.Bytes.{Bytes, all}
 use Rattle.rules.proofs.Words.{and_split}
-use Rattle.byte_copy.proofs.CopyLaws.{eight_taken}
 use Rattle.rules.proofs.BooleanLaws.{all_append}
+
+-- ---- the test of each item, as std has it and as the rules have it
+pub all_list : {A : Type 0} (p : A → Bool) (xs : List A) → list_all p xs ≡ all p xs
+all_list p [] = refl
+all_list p (x ∷ xs) = ap (λ (b : Bool). p x && b) (all_list p xs)
 
 -- ---- each byte
 module _ (p : ℕ → Bool) (bs : Bytes) (i : ℕ) where
   all_here : i < length bs → all p (drop i bs) ≡ (p (get_or bs i 0) && all p (drop (i + 1) bs))
   all_here h = rw (add-one, drop-cons bs i 0 h)
 
-  pub all_on : {b : Bool} → b ≡ all p (drop i bs) → i < length bs → p (get_or bs i 0) ≡ true → b ≡ all p (drop (i + 1) bs)
-  all_on e h t = e ∙ all_here h ∙ rw t
+  -- a loop that tests each byte: a is what those before i answer, w what all do
+  pub passes_on : (a : Bool) {w b : Bool} → w ≡ (a && all p (drop i bs)) → i < length bs → b ≡ p (get_or bs i 0) → w ≡ ((a && b) && all p (drop (i + 1) bs))
+  passes_on a {w} {b} e h t = e ∙ ap (λ (x : Bool). a && x) (all_here h ∙ ap (λ (x : Bool). x && all p (drop (i + 1) bs)) (sym t)) ∙ joined a
+    where
+      joined : (a : Bool) → (a && (b && all p (drop (i + 1) bs))) ≡ ((a && b) && all p (drop (i + 1) bs))
+      joined true = refl
+      joined false = refl
 
-  pub all_off : {b : Bool} → b ≡ all p (drop i bs) → i < length bs → p (get_or bs i 0) ≡ false → false ≡ b
-  all_off e h t = sym (e ∙ all_here h ∙ rw t)
-
-  pub all_end : {b : Bool} → b ≡ all p (drop i bs) → length bs ≤ i → true ≡ b
-  all_end e h = sym (e ∙ ap (all p) (drop_of_length-le bs h))
+  pub passes_end : {w a : Bool} → w ≡ (a && all p (drop i bs)) → length bs ≤ i → a ≡ w
+  passes_end {w} {a} e h = sym (e ∙ ap (λ (x : Bool). a && x) (ap (all p) (drop_of_length-le bs h)) ∙ alone a)
+    where
+      alone : (a : Bool) → (a && true) ≡ a
+      alone true = refl
+      alone false = refl
 
 -- ---- eight bytes
 module _ (p : ℕ → Bool) where
   -- of a string that is cut
   all_cut : (i : ℕ) (bs : Bytes) → all p bs ≡ (all p (take i bs) && all p (drop i bs))
   all_cut i bs = ap (all p) (sym (take-append-drop i bs)) ∙ all_append p (take i bs) (drop i bs)
-
-  pub eight_of : (bs : Bytes) (i : ℕ) → i + 8 ≤ length bs
-      → (p (get_or bs i 0)
-      && (p (get_or bs (i + 1) 0)
-      && (p (get_or bs (i + 2) 0)
-      && (p (get_or bs (i + 3) 0) && (p (get_or bs (i + 4) 0) && (p (get_or bs (i + 5) 0) && (p (get_or bs (i + 6) 0) && p (get_or bs (i + 7) 0))))))))
-      ≡ all p (take 8 (drop i bs))
-  eight_of bs i h = rw (eight_taken bs i h) (rw and-true)
 
   -- what a loop that tests k bytes at a time has left, the first i having passed
   module _ (bs : Bytes) (i : ℕ) (inv : all p (take i bs) ≡ true) where

@@ -5,30 +5,7 @@ use Prim.Native.Nat.{ℕ, zero, suc, ◌+◌, ◌-◌, ◌<◌, ◌≤◌}
 use native.Mathlib.Nat.{le_of_suc-le-suc, not-suc-le-zero}
 use native.Mathlib.Omega.{arith}
 use lib.ListN.{length, take, drop, get_or, set, length-append, length-drop}
-use lib.Seq.{sets, sets-eq, drop-cons, drop-drop, drop-append-add, take-add, take-take, take-append-le, length-take-le}
-
--- the eight bytes from i on
-pub eight_taken : (s : List ℕ) (i : ℕ) → i + 8 ≤ length s
-    → take 8 (drop i s) ≡ get_or s i 0 ∷ get_or s (i + 1) 0 ∷ get_or s (i + 2) 0 ∷ get_or s (i + 3) 0 ∷ get_or s (i + 4) 0 ∷ get_or s (i + 5) 0 ∷ get_or s (i + 6) 0 ∷ get_or s (i + 7) 0 ∷ []
-eight_taken s i h =
-    let e1 : i + 1 ≡ suc i = omega arith in
-    let e2 : i + 2 ≡ suc (suc i) = omega arith in
-    let e3 : i + 3 ≡ suc (suc (suc i)) = omega arith in
-    let e4 : i + 4 ≡ suc (suc (suc (suc i))) = omega arith in
-    let e5 : i + 5 ≡ suc (suc (suc (suc (suc i)))) = omega arith in
-    let e6 : i + 6 ≡ suc (suc (suc (suc (suc (suc i))))) = omega arith in
-    let e7 : i + 7 ≡ suc (suc (suc (suc (suc (suc (suc i)))))) = omega arith in
-    rw (e1, e2, e3, e4, e5, e6, e7)
-    (rw (
-      drop-cons s i 0 (omega arith),
-      drop-cons s (suc i) 0 (omega arith),
-      drop-cons s (suc (suc i)) 0 (omega arith),
-      drop-cons s (suc (suc (suc i))) 0 (omega arith),
-      drop-cons s (suc (suc (suc (suc i)))) 0 (omega arith),
-      drop-cons s (suc (suc (suc (suc (suc i))))) 0 (omega arith),
-      drop-cons s (suc (suc (suc (suc (suc (suc i)))))) 0 (omega arith),
-      drop-cons s (suc (suc (suc (suc (suc (suc (suc i))))))) 0 (omega arith),
-    ))
+use lib.Seq.{sets, sets-eq, drop-drop, drop-append-add, take-add, take-take, take-append-le, length-take-le}
 
 -- one byte more is copied
 pub copy_more : (src out : List ℕ) (i : ℕ) → i < length src → i < length out → set (take i src ++ drop i out) i (get_or src i 0) ≡ take (suc i) src ++ drop (suc i) out
@@ -36,27 +13,6 @@ copy_more [] out i h k = absurd (not-suc-le-zero h)
 copy_more (x ∷ xs) [] i h k = absurd (not-suc-le-zero k)
 copy_more (x ∷ xs) (y ∷ ys) zero h k = refl
 copy_more (x ∷ xs) (y ∷ ys) (suc i) h k = ap (λ (l : List ℕ). x ∷ l) (copy_more xs ys i (le_of_suc-le-suc h) (le_of_suc-le-suc k))
-
--- eight stores, one after the other
-pub eight_stored : (src out : List ℕ) (i : ℕ) → i + 8 ≤ length src
-    → set
-    (set
-    (set
-    (set (set (set (set (set out i (get_or src i 0)) (i + 1) (get_or src (i + 1) 0)) (i + 2) (get_or src (i + 2) 0)) (i + 3) (get_or src (i + 3) 0)) (i + 4)
-    (get_or src (i + 4) 0))
-    (i + 5) (get_or src (i + 5) 0))
-    (i + 6) (get_or src (i + 6) 0))
-    (i + 7) (get_or src (i + 7) 0)
-    ≡ sets out i (take 8 (drop i src))
-eight_stored src out i h =
-    let e1 : i + 1 ≡ suc i = omega arith in
-    let e2 : i + 2 ≡ suc (suc i) = omega arith in
-    let e3 : i + 3 ≡ suc (suc (suc i)) = omega arith in
-    let e4 : i + 4 ≡ suc (suc (suc (suc i))) = omega arith in
-    let e5 : i + 5 ≡ suc (suc (suc (suc (suc i)))) = omega arith in
-    let e6 : i + 6 ≡ suc (suc (suc (suc (suc (suc i))))) = omega arith in
-    let e7 : i + 7 ≡ suc (suc (suc (suc (suc (suc (suc i)))))) = omega arith in
-    rw (eight_taken src i h) (rw (e1, e2, e3, e4, e5, e6, e7))
 
 -- k bytes more are copied, from a place up to which all is copied; some of them may be copied again
 pub copy_part : (src out : List ℕ) (i at k : ℕ) → at ≤ i → i ≤ at + k → at + k ≤ length src → length src ≤ length out

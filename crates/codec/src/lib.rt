@@ -85,17 +85,7 @@ pub fn part(s: &[u8], at: usize, n: usize) -> &[u8]
 pub fn equal(a: &[u8], b: &[u8]) -> bool
     ensures { result ≡ same a.now b.now }
 {
-    if a.len() != b.len() {
-        return false;
-    }
-    let mut i = 0;
-    while i < a.len() {
-        if byte(a, i) != byte(b, i) {
-            return false;
-        }
-        i += 1;
-    }
-    true
+    a == b
 }
 
 /// Stores a byte where there is room.
@@ -111,10 +101,8 @@ pub fn store(out: &mut [u8], at: usize, x: u8)
 pub fn lay(src: &[u8], out: &mut [u8])
     ensures { out.new ≡ sets out.old 0 src.now }
 {
-    let mut i = 0;
-    while i < src.len() {
-        store(out, i, byte(src, i));
-        i += 1;
+    for (i, x) in src.iter().enumerate() {
+        store(out, i, *x);
     }
 }
 

@@ -1,19 +1,12 @@
--- `byte_check::all_in_name` meets its contract: a byte that may not stand in a name makes the answer false (`all_off`
--- of TestLaws), any other keeps the invariant (`all_on`), and past the last byte the answer is true (`all_end`).
-use mathlib.Core.Path.{sym, ◌∙◌}
-use native.Mathlib.Omega.{arith}
-use Rattle.byte_check.proofs.TestLaws.{all_on, all_off, all_end}
+-- `byte_check::all_in_name` meets its contract: the closure asks `in_name` of each byte, and what `all` answers of a
+-- slice is the test's `all` (`all_list` of TestLaws).
+use mathlib.Core.Path.{◌∙◌}
+use Rattle.std.proofs.Common.{rules, tests}
+use Rattle.std.proofs.lemmas.Iterator.{YieldsList-from_slice}
+use Rattle.std.proofs.lemmas.Iterator.Search.{all_from_yields_List}
 use Rattle.rules.specs.WellFormed.{in_name}
+use Rattle.byte_check.proofs.TestLaws.{all_list}
 use Rattle.byte_check.proofs.all_in_name.Goals as goal
 
-pub returns-then-not-in_name : goal.returns-then-not-in_name
-returns-then-not-in_name c =
-    all_off in_name c.args.s.now c.loop-i.i c.loop-i.invariant (omega arith) (sym c.in_name.ensures ∙ c.if-not-in_name.true)
-
-pub loop-i-preserved : goal.loop-i-preserved
-loop-i-preserved c =
-    all_on in_name c.args.s.now c.loop-i.i c.loop-i.invariant (omega arith) (sym c.in_name.ensures ∙ c.if-not-in_name.false)
-
 pub returns : goal.returns
-returns c =
-    all_end in_name c.args.s.now c.loop-i.i c.loop-i.invariant (omega arith)
+returns c = all_from_yields_List in_name _ _ _ c.all.ensures.ran (YieldsList-from_slice c.args.s.now cc) (λ x b q k. search (rules, tests)) ∙ all_list in_name c.args.s.now

@@ -1,33 +1,21 @@
--- `byte_copy::copy_eight` meets its contract: the eight writes, one after the other, are `sets` of the eight bytes from
--- i on (`eight_stored` of CopyLaws). A write keeps the length of `out` (`length-set` of ListN), so that each place is
--- in range.
+-- `byte_copy::copy_eight` meets its contract: the eight places of `out` get the eight bytes of `src`, and those before
+-- and after them stay (`sets-eq` of Seq).
+use mathlib.Core.Path.{◌≡◌, sym, ap, ap₂, ◌∙◌}
+use mathlib.Core.List.{List, ◌++◌, append_assoc}
+use Prim.Native.Nat.{ℕ, ◌+◌, ◌-◌}
 use native.Mathlib.Omega.{arith}
-use lib.ListN.{length-set}
-use Rattle.byte_copy.proofs.CopyLaws.{eight_stored}
+use lib.ListN.{length, take, drop, length-drop}
+use lib.Seq.{sets-eq, drop-drop, length-take-le}
 use Rattle.byte_copy.proofs.copy_eight.Goals as goal
-
-pub bounds-out-i-2 : goal.bounds-out-i-2
-bounds-out-i-2 c = simp length-set (omega arith)
-
-pub bounds-out-i-3 : goal.bounds-out-i-3
-bounds-out-i-3 c = simp length-set (omega arith)
-
-pub bounds-out-i-4 : goal.bounds-out-i-4
-bounds-out-i-4 c = simp length-set (omega arith)
-
-pub bounds-out-i-5 : goal.bounds-out-i-5
-bounds-out-i-5 c = simp length-set (omega arith)
-
-pub bounds-out-i-6 : goal.bounds-out-i-6
-bounds-out-i-6 c = simp length-set (omega arith)
-
-pub bounds-out-i-7 : goal.bounds-out-i-7
-bounds-out-i-7 c = simp length-set (omega arith)
-
-pub bounds-out-i-8 : goal.bounds-out-i-8
-bounds-out-i-8 c = simp length-set (omega arith)
 
 pub returns : goal.returns
 returns c =
-    let s = c.args in
-    eight_stored s.src.now s.out.now s.i (omega arith)
+    let i = c.args.i in
+    let src = c.args.src.now in
+    let out = c.args.out.now in
+    let k : i + 8 - i ≡ 8 = omega arith in
+    let n : length (take 8 (drop i src)) ≡ 8 = length-take-le 8 (drop i src) (omega (arith, length-drop i src)) in
+    ap₂ (λ (x y : List ℕ). take i out ++ (x ++ y))
+    (c.copy_from_slice.ensures.after ∙ ap (λ (j : ℕ). take j (drop i src)) k)
+    (ap (λ (j : ℕ). drop j (drop i out)) k ∙ drop-drop 8 i out ∙ ap (λ (j : ℕ). drop (i + j) out) (sym n))
+    ∙ sym (append_assoc (take i out) (take 8 (drop i src)) (drop (i + length (take 8 (drop i src))) out)) ∙ sym (sets-eq (take 8 (drop i src)) out i (omega (arith, n)))

@@ -1,13 +1,15 @@
 -- The loop over the documents of a text: what is left to judge gives the verdict.
 use mathlib.Core.Path.{◌≡◌, refl, sym, ap, subst, ◌∙◌}
-use mathlib.Core.Bool.{Bool, true, false, ◌&&◌, ◌||◌, not, false≢true}
+use mathlib.Core.Bool.{Bool, true, false, ◌&&◌}
 use mathlib.Core.Option.{Option, none, some}
+use Rattle.std.specs.Prelude as code
+use Rattle.std.specs.Prelude.{None, Some}
+use Rattle.std.specs.Bool.{then_some}
 use mathlib.Core.List.{List, [], ◌∷◌}
 use Prim.Native.Nat.{ℕ, ◌+◌, ◌-◌, ◌*◌, ◌<◌, ◌≤◌}
 use native.Mathlib.Omega.{arith}
 use native.Mathlib.Nat.{zero-add}
-use borrow.Author.Tests.{ltb-true, ltb-false}
-use lib.Dec.{eqb, ltb}
+use lib.Dec.{eqb}
 use lib.ListN.{length, take, drop, replicate}
 use lib.Seq.{length-take-le}
 use Rattle.rules.specs.Bytes.{Bytes, is_none}
@@ -25,22 +27,18 @@ use Rattle.document_tokens.specs.Tokens.{Declared, declared_in, with_rows}
 use Rattle.document_tokens.specs.Telling.{stack_of}
 use Rattle.document_tokens.proofs.ChoiceLaws.{stack_size}
 use Rattle.document_row_writer.specs.Putting.{documents_in, rows_or, rows_here, Starts, PartRead, SomePut}
+use Rattle.document_row_writer.specs.declared.Written.{Written}
 use Rattle.document_row_writer.proofs.RowLaws.{rows_ended}
 use Rattle.document_row_writer.proofs.PutLaws.{rows_start_lem}
 use Rattle.document_reading.specs.Judging.{fit_from, rows_fit, Judges}
 use Rattle.document_reading.proofs.FitLaws.{fit_refused, fit_after, fit_many, more_rows, fit_ended, rows_front, rows_size}
 
--- the tokens are exact, and the rows are not too many
-pub goes_further : (exact : Bool) (m : ℕ) → (not exact || ltb 4096 m) ≡ false → (exact ≡ true) × (m ≤ 4096)
-goes_further true m e = (refl, ltb-false 4096 m e)
-goes_further false m e = absurd (false≢true (sym e))
-
 -- what was put at a width that is the one of a form's bytes
 pub put_at_lem : {form : Bytes} {w : ℕ} → WidthIn form w → {d : Declared} {txt : Bytes} {m : ℕ} {opened : Bytes} {depth : ℕ} {tag : Bool} {limit : ℕ} {out : Bytes} {at : ℕ}
-    {exact : Bool} {size m' : ℕ} {opened' : Bytes} {depth' : ℕ} {tag' : Bool} {out' : Bytes} {at' : ℕ} → SomePut w d txt m opened depth tag limit out at exact size m' opened' depth' tag' out' at'
-    → SomePut (width_of form) d txt m opened depth tag limit out at exact size m' opened' depth' tag' out' at'
-put_at_lem {form} {w} v {d} {txt} {m} {opened} {depth} {tag} {limit} {out} {at} {exact} {size} {m'} {opened'} {depth'} {tag'} {out'} {at'} p =
-    subst (λ (u : ℕ). SomePut u d txt m opened depth tag limit out at exact size m' opened' depth' tag' out' at') v.value p
+    {r : code.Option Written} {opened' out' : Bytes} → SomePut w d txt m opened depth tag limit out at r opened' out'
+    → SomePut (width_of form) d txt m opened depth tag limit out at r opened' out'
+put_at_lem {form} {w} v {d} {txt} {m} {opened} {depth} {tag} {limit} {out} {at} {r} {opened'} {out'} p =
+    subst (λ (u : ℕ). SomePut u d txt m opened depth tag limit out at r opened' out') v.value p
 
 -- m rows came, and those from here on are left
 pub record Judging (b : Before) (d : Declared) (rows : Option (List (Deep FlatRow))) (s opened : Bytes) (depth : ℕ) (tag : Bool) (m : ℕ) (t : Bytes) : Type 0 where
@@ -74,88 +72,78 @@ judging_start b form txt opened {depth} {tag} {m} h s =
 
 module _ {b : Before} {d : Declared} {rows : Option (List (Deep FlatRow))} {s opened : Bytes} {depth : ℕ} {tag : Bool} {m : ℕ} {t : Bytes}
     (p : Judging b d rows s opened depth tag m t) where
-  -- some rows were put into an array, or a token is not exact
-  module _ {limit : ℕ} {out : Bytes} {exact : Bool} {size m' : ℕ} {opened' : Bytes} {depth' : ℕ} {tag' : Bool} {out' : Bytes} {at' : ℕ}
-      (q : SomePut b.width d t m opened depth tag limit out 0 exact size m' opened' depth' tag' out' at') where
-    pub judging_inexact : exact ≡ false → {c : Bool} {k : ℕ} → c ≡ false → Judges b rows c k
-    judging_inexact e g = record { is = g ∙ sym (p.is ∙ ap (fit_from b m s) (q.refuses e)); counts = λ x. absurd (false≢true (sym g ∙ x)) }
+  -- a token is not exact
+  pub judging_inexact : {limit : ℕ} {out opened' out' : Bytes} → SomePut b.width d t m opened depth tag limit out 0 None opened' out' → Judges b rows None
+  judging_inexact q = record { is = sym (p.is ∙ ap (fit_from b m s) q.is); counts = tt }
 
-    module _ (e : exact ≡ true) where
-      abbrev part : PartRead b.width d t m opened depth tag out 0 size m' opened' depth' tag' out' at'
-      part = q.reads e
+  -- some rows were put into an array
+  module _ {limit : ℕ} {out : Bytes} {k : Written} {opened' out' : Bytes} (q : SomePut b.width d t m opened depth tag limit out 0 (Some k) opened' out') where
+    abbrev part : PartRead b.width d t m opened depth tag out 0 k.size k.progress.count opened' k.progress.depth k.progress.tag out' k.at
+    part = q.is.part
 
-      abbrev left : Option (List (Deep FlatRow))
-      left = rows_here b.width d m' opened' depth' tag' (drop size t)
+    abbrev left : Option (List (Deep FlatRow))
+    left = rows_here b.width d k.progress.count opened' k.progress.depth k.progress.tag (drop k.size t)
 
-      -- the verdict on them
-      fit_is : {c : Bool} → fit_from b m s (with_rows part.made left) ≡ c → rows_fit b rows ≡ c
-      fit_is h = p.is ∙ ap (fit_from b m s) part.rows ∙ h
+    -- the verdict on them
+    fit_is : {c : Bool} → fit_from b m s (with_rows part.made left) ≡ c → rows_fit b rows ≡ c
+    fit_is h = p.is ∙ ap (fit_from b m s) part.rows ∙ h
 
-      pub judging_many : 4096 < m' → {c : Bool} {k : ℕ} → c ≡ false → Judges b rows c k
-      judging_many h g =
-          record {
-            is = g ∙ sym (fit_is (fit_many b m s part.made left (omega (arith, part.counted))));
-            counts = λ x. absurd (false≢true (sym g ∙ x));
-          }
+    pub judging_many : 4096 < k.progress.count → Judges b rows None
+    judging_many h = record { is = sym (fit_is (fit_many b m s part.made left (omega (arith, part.counted)))); counts = tt }
 
-      -- the bytes of the rows that were put, where there is room for them
-      pub batch_room : limit ≤ m + 16 → at' ≤ 4272
-      batch_room h = omega (arith, part.put.small, part.counted, q.ceiling e)
+    -- the bytes of the rows that were put, where there is room for them
+    pub batch_room : limit ≤ m + 16 → k.at ≤ 4272
+    batch_room h = omega (arith, part.put.small, part.counted, q.is.ceiling)
 
-      pub batch_whole : at' ≤ length out → at' ≡ length (take at' out')
-      batch_whole room = sym (length-take-le at' out' (omega (arith, laid_long part.put.laid)))
+    pub batch_whole : k.at ≤ length out → k.at ≡ length (take k.at out')
+    batch_whole room = sym (length-take-le k.at out' (omega (arith, laid_long part.put.laid)))
 
-      pub batch_size : {k : ℕ} → k ≡ m' - m → at' ≤ length out → row_size b.width * k ≤ length (take at' out')
-      batch_size {k} h room =
-          let many : k ≡ length part.made = omega (arith, part.counted) in
-          omega (arith, rows_size part.put room, ap (λ (n : ℕ). row_size b.width * n) many)
+    pub batch_size : {n : ℕ} → n ≡ k.progress.count - m → k.at ≤ length out → row_size b.width * n ≤ length (take k.at out')
+    batch_size {n} h room =
+        let many : n ≡ length part.made = omega (arith, part.counted) in
+        omega (arith, rows_size part.put room, ap (λ (z : ℕ). row_size b.width * z) many)
 
-      pub batch_walked : {k : ℕ} → k ≡ m' - m → at' ≤ length out → {bs : Bytes} → bs ≡ take at' out' → {answer : Bool} {s' : Bytes} → WalkMade b s k bs answer s'
-          → WalkMade b s (length part.made) (each (row_bytes b.width) part.made) answer s'
-      batch_walked {k} h room {bs} g {answer} {s'} made =
-          let many : k ≡ length part.made = omega (arith, part.counted) in
-          subst (λ (u : Bytes). WalkMade b s (length part.made) u answer s') (g ∙ rows_front part.put room)
-          (subst (λ (n : ℕ). WalkMade b s n bs answer s') many made)
+    pub batch_walked : {n : ℕ} → n ≡ k.progress.count - m → k.at ≤ length out → {bs : Bytes} → bs ≡ take k.at out' → {answer : Bool} {s' : Bytes} → WalkMade b s n bs answer s'
+        → WalkMade b s (length part.made) (each (row_bytes b.width) part.made) answer s'
+    batch_walked {n} h room {bs} g {answer} {s'} made =
+        let many : n ≡ length part.made = omega (arith, part.counted) in
+        subst (λ (u : Bytes). WalkMade b s (length part.made) u answer s') (g ∙ rows_front part.put room)
+        (subst (λ (z : ℕ). WalkMade b s z bs answer s') many made)
 
-      module _ {answer : Bool} {s' : Bytes} (made : WalkMade b s (length part.made) (each (row_bytes b.width) part.made) answer s') where
-        pub judging_refused : answer ≡ false → {c : Bool} {k : ℕ} → c ≡ false → Judges b rows c k
-        judging_refused h g = record { is = g ∙ sym (fit_is (fit_refused b part.made made m left h)); counts = λ x. absurd (false≢true (sym g ∙ x)) }
+    module _ {answer : Bool} {s' : Bytes} (made : WalkMade b s (length part.made) (each (row_bytes b.width) part.made) answer s') where
+      pub judging_refused : answer ≡ false → Judges b rows None
+      judging_refused h = record { is = sym (fit_is (fit_refused b part.made made m left h)); counts = tt }
 
-        pub judging_on : {t' : Bytes} → answer ≡ true → m' ≤ 4096 → length opened' ≡ 256 → t' ≡ drop size t → Judging b d rows s' opened' depth' tag' m' t'
-        judging_on h few stack g =
-            let goes : fit_from b m s (rows_here b.width d m opened depth tag t) ≡ fit_from b m' s' left =
-            ap (fit_from b m s) part.rows ∙ fit_after b part.made made m left h ∙ ap (λ (k : ℕ). fit_from b k s' left) part.counted in
-            rw g
-            (record {
-              is = p.is ∙ goes;
-              counts = λ x.
-                  p.counts (goes ∙ x)
-                  ∙ ap (λ (o : Option (List (Deep FlatRow))). m + length (rows_or o)) part.rows
-                  ∙ more_rows b part.made m' m s' left x
-                  ∙ ap (λ (k : ℕ). k + length (rows_or left)) part.counted;
-              few = few;
-              fits = made.fits;
-              stack = stack;
-              deep = part.deep;
-            })
-
-    pub judging_over : (not exact || ltb 4096 m') ≡ true → {c : Bool} {k : ℕ} → c ≡ false → Judges b rows c k
-    judging_over h {c} {k} g = by exact refl h
-      where
-        by : (x : Bool) → exact ≡ x → (not x || ltb 4096 m') ≡ true → Judges b rows c k
-        by true e y = judging_many e (ltb-true 4096 m' y) g
-        by false e y = judging_inexact e g
+      pub judging_on : {t' : Bytes} → answer ≡ true → k.progress.count ≤ 4096 → length opened' ≡ 256 → t' ≡ drop k.size t → Judging b d rows s' opened' k.progress.depth k.progress.tag k.progress.count t'
+      judging_on h few stack g =
+          let goes : fit_from b m s (rows_here b.width d m opened depth tag t) ≡ fit_from b k.progress.count s' left =
+          ap (fit_from b m s) part.rows ∙ fit_after b part.made made m left h ∙ ap (λ (z : ℕ). fit_from b z s' left) part.counted in
+          rw g
+          (record {
+            is = p.is ∙ goes;
+            counts = λ x.
+                p.counts (goes ∙ x)
+                ∙ ap (λ (o : Option (List (Deep FlatRow))). m + length (rows_or o)) part.rows
+                ∙ more_rows b part.made k.progress.count m s' left x
+                ∙ ap (λ (z : ℕ). z + length (rows_or left)) part.counted;
+            few = few;
+            fits = made.fits;
+            stack = stack;
+            deep = part.deep;
+          })
 
   none_left : (l : List ℕ) → length (rows_or (elim (is_none l) [ true ↦ some [] | false ↦ none ])) ≡ 0
   none_left [] = refl
   none_left (x ∷ l) = refl
 
-  pub judging_ended : length t ≡ 0 → {ends c : Bool} {k : ℕ} → ends ≡ end b.form s → c ≡ (eqb depth 0 && ends) → k ≡ m → Judges b rows c k
-  judging_ended e {ends} g y z =
+  pub judging_ended : length t ≡ 0 → {ends : Bool} → ends ≡ end b.form s → {r : code.Option ℕ} → r ≡ then_some (eqb depth 0 && ends) m → Judges b rows r
+  judging_ended e {ends} g {r} y =
       let left = rows_ended d b.width (m + 1) (stack_of depth opened) tag t e in
       let fit : fit_from b m s (rows_here b.width d m opened depth tag t) ≡ (eqb depth 0 && ends) =
       ap (fit_from b m s) left ∙ fit_ended b m s (stack_of depth opened) p.few (stack_size depth opened) ∙ ap (λ (x : Bool). eqb depth 0 && x) (sym g) in
-      record {
-        is = y ∙ sym (p.is ∙ fit);
-        counts = λ x. omega (arith, z, p.counts (fit ∙ sym y ∙ x), ap (λ (o : Option (List (Deep FlatRow))). length (rows_or o)) left ∙ none_left (stack_of depth opened));
-      }
+      let none = ap (λ (o : Option (List (Deep FlatRow))). length (rows_or o)) left ∙ none_left (stack_of depth opened) in
+      rw y (by (eqb depth 0 && ends) (p.is ∙ fit) (λ x. omega (arith, p.counts (fit ∙ x), none)))
+    where
+      by : (c : Bool) → rows_fit b rows ≡ c → (c ≡ true → m ≡ length (rows_or rows)) → Judges b rows (then_some c m)
+      by true f z = record { is = sym f; counts = z refl }
+      by false f z = record { is = sym f; counts = tt }

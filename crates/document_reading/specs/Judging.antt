@@ -1,5 +1,7 @@
 -- The rows that the documents of a text say, judged.
 use Rattle.std.specs.Prelude.{ℕ, ◌+◌, ◌≡◌, Bool, true, false, ◌&&◌, List, leb, length}
+use Rattle.std.specs.Prelude as code
+use Rattle.std.specs.Prelude.{is_some, IfSome}
 use Rattle.std.proofs.Math.Option.{Option, none, some}
 use Rattle.rules.specs.Bytes.{Bytes}
 use Rattle.rules.specs.Preorder.{Deep}
@@ -21,15 +23,15 @@ abbrev pub rows_fit : Before → Option (List (Deep FlatRow)) → Bool
 rows_fit b none = false
 rows_fit b (some xs) = leb (length xs) 4096 && verdict b (length xs) (each (row_bytes b.width) xs)
 
--- the verdict, and how many rows there are if it is good
-pub record Judges (b : Before) (rows : Option (List (Deep FlatRow))) (fits : Bool) (count : ℕ) : Type 0 where
-  pub is : fits ≡ rows_fit b rows
-  pub counts : fits ≡ true → count ≡ length (rows_or rows)
+-- the verdict: how many rows there are, if it is good
+pub record Judges (b : Before) (rows : Option (List (Deep FlatRow))) (r : code.Option ℕ) : Type 0 where
+  pub is : is_some r ≡ rows_fit b rows
+  pub counts : IfSome r (λ n. n ≡ length (rows_or rows))
 
 -- the rows of the documents `rest` by the form of the store `bs`
 abbrev pub rows_behind : Bytes → Bytes → Option (List (Deep FlatRow))
 rows_behind bs rest = documents_in (width_of bs) bs rest
 
 -- the documents stand, and are so many rows
-abbrev pub Stand : Bytes → Bytes → Bool → ℕ → Type 0
-Stand bs rest stands n = Judges (before_read bs) (rows_behind bs rest) stands n
+abbrev pub Stand : Bytes → Bytes → code.Option ℕ → Type 0
+Stand bs rest r = Judges (before_read bs) (rows_behind bs rest) r

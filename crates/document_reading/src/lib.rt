@@ -18,23 +18,10 @@ const NEXT: usize = 4097;
 
 // ---- documents
 
-/// Whether the rows of documents fit, and how many they are if they do.
-#[derive(Clone, Copy)]
-pub struct Judged {
-    pub fits: bool,
-    pub rows: usize,
-}
-
-fn verdict(fits: bool, rows: usize) -> Judged
-    ensures { (result.fits ≡ fits) × (result.rows ≡ rows) }
-{
-    Judged { fits, rows }
-}
-
-// Judges the documents of a text by a form and its table.
-fn judge_by(form: &[u8], table: &[u64], text: &[u8]) -> Judged
+// Judges the documents of a text by a form and its table: how many rows they are, if they fit.
+fn judge_by(form: &[u8], table: &[u64], text: &[u8]) -> Option<usize>
     requires { (passes form.now ≡ true) × TableOf form.now table.now }
-    ensures { Stand form.now text.now result.fits result.rows }
+    ensures { Stand form.now text.now result }
 {
     let w = layout::width_in(form);
     let mut state = [0; STATE];
@@ -42,31 +29,32 @@ fn judge_by(form: &[u8], table: &[u64], text: &[u8]) -> Judged
     let mut rows = [0; BATCH_BYTES];
     let mut here = document_row_writer::start();
     let mut t = text;
+    // A `while`: a batch of rows is any number of bytes of the text.
     while 0 < t.len() {
         let before = here.count;
         let most = before + BATCH;
-        let put = document_row_writer::put_rows(w, form, &mut opened, here, most, t, &mut rows, 0);
+        let put = document_row_writer::put_rows(w, form, &mut opened, here, most, t, &mut rows, 0)?;
         here = put.progress;
-        if !put.exact | (layout::MAX_ROWS < here.count) {
-            return verdict(false, 0);
+        if layout::MAX_ROWS < here.count {
+            return None;
         }
         let end = put.at;
         let read = &rows[..end];
         let count = here.count - before;
         if !row_check::walk_rows(form, NEXT, table, &mut state, read, count) {
-            return verdict(false, 0);
+            return None;
         }
         let rest = codec::after(t, put.size);
         t = rest;
     }
     let ends = row_check::walk_ends(form, table, &state);
-    verdict((here.depth == 0) & ends, here.count)
+    ((here.depth == 0) & ends).then_some(here.count)
 }
 
-/// Judges the documents of a text by a form that passes.
-pub fn judge_documents(form: &[u8], text: &[u8]) -> Judged
+/// Judges the documents of a text by a form that passes: how many rows they are, if they fit.
+pub fn judge_documents(form: &[u8], text: &[u8]) -> Option<usize>
     requires { passes form.now ≡ true }
-    ensures { Stand form.now text.now result.fits result.rows }
+    ensures { Stand form.now text.now result }
 {
     let mut table: [u64; form_table::TABLE] = [0; form_table::TABLE];
     row_check::lay_table(form, &mut table);

@@ -1,9 +1,11 @@
 -- The rows of documents, written: what some tokens give, and what the tokens after them give, is what all of them give.
 use mathlib.Core.Path.{◌≡◌, refl, sym, ap, ◌∙◌}
 use mathlib.Core.Bool.{Bool, true, false, ◌&&◌, ◌||◌, false≢true}
-use mathlib.Core.Option.{Option, none, some}
+use mathlib.Core.Option as maybe
+use mathlib.Core.Option.{none, some}
+use Rattle.std.specs.Prelude.{None, Some}
 use mathlib.Core.List.{List, [], ◌∷◌, ◌++◌, append-nil}
-use Prim.Native.Nat.{ℕ, ◌+◌, ◌*◌, ◌<◌, ◌≤◌}
+use Prim.Native.Nat.{ℕ, ◌+◌, ◌<◌, ◌≤◌}
 use native.Mathlib.Omega.{arith}
 use native.Mathlib.Nat.{add-zero}
 use borrow.Author.Tests.{eq-eqb, ne_eqb, ltb-true, ltb-false}
@@ -24,7 +26,8 @@ use Rattle.layout.specs.RowBytes.{row_of, RowLaid}
 use Rattle.document_tokens.specs.Tokens.{Declared, declared_in, Token, token_at, with_rows}
 use Rattle.document_tokens.specs.Telling.{stack_of, Tells, TokenTold}
 use Rattle.document_tokens.proofs.TokenLaws.{token_fits, with_none, with_append}
-use Rattle.document_row_writer.specs.Putting.{documents_in, rows_or, RowsRead, rows_here, made_row, made_count, Advanced, RowsPut, Starts, PartRead, TokenPut, SomePut}
+use Rattle.document_row_writer.specs.Putting.{documents_in, rows_or, RowsRead, rows_here, made_row, made_count, Advanced, RowsPut, Starts, PartRead, TokenPut, SomeRead, SomePut}
+use Rattle.document_row_writer.specs.declared.Written.{Written}
 use Rattle.document_row_writer.proofs.RowLaws.{rows_refused, rows_ended}
 use Rattle.document_row_writer.proofs.AfterLaws.{made_many, made_few, rows_made_lem, made_counted, rows_left_lem}
 
@@ -85,40 +88,33 @@ module _ (w : ℕ) (d : Declared) (txt : Bytes) (m : ℕ) (opened : Bytes) (dept
   abbrev t : Token
   t = token_at d w (stack_of depth opened) tag txt
 
-  pub token_refused : {value v' : Bytes} {exact : Bool} {size sort index n : ℕ} → Tells t value exact size sort index n v' → exact ≡ false
-      → {b : Bool} {size' m' depth' : ℕ} {tag' : Bool} {out out' opened' : Bytes} {at at' : ℕ} → b ≡ false
-      → TokenPut w d txt m opened depth tag out at b size' m' opened' depth' tag' out' at'
-  token_refused p e g =
-      record {
-        refuses = λ x. rows_refused d w (m + 1) (stack_of depth opened) tag txt there (sym p.is ∙ e);
-        reads = λ x. absurd (false≢true (sym g ∙ x));
-        onward = λ x. absurd (false≢true (sym g ∙ x));
-        more = λ x. absurd (false≢true (sym g ∙ x));
-      }
+  pub token_refused : {value v' : Bytes} → Tells t value None v' → {out out' opened' : Bytes} {at : ℕ} → TokenPut w d txt m opened depth tag out at None opened' out'
+  token_refused p = record { is = rows_refused d w (m + 1) (stack_of depth opened) tag txt there (sym p.is) }
 
   pub token_put : {size sort index n : ℕ} {v' v : Bytes} → t.exact ≡ true → TokenTold t size sort index n v' → v ≡ take n v'
       → {out out' : Bytes} {at at' : ℕ} → RowsPut w (made_row sort depth index (m + 1) v) out at at' out'
-      → {size' m' depth' : ℕ} {opened' : Bytes} {tag' : Bool} → Advanced tag opened depth sort index depth' opened' → size' ≡ size → m' ≡ m + made_count sort → tag' ≡ (eqb sort 1 || eqb sort 2)
-      → TokenPut w d txt m opened depth tag out at true size' m' opened' depth' tag' out' at'
-  token_put {size} {sort} {index} {n} {v'} {v} exact told valued {out} {out'} {at} {at'} p {size'} {m'} {depth'} {opened'} {tag'} adv z mm g =
+      → {m' depth' : ℕ} {opened' : Bytes} {tag' : Bool} → Advanced tag opened depth sort index depth' opened' → m' ≡ m + made_count sort → tag' ≡ (eqb sort 1 || eqb sort 2)
+      → TokenPut w d txt m opened depth tag out at (Some (record { size = size; progress = record { depth = depth'; tag = tag'; count = m' }; at = at' })) opened' out'
+  token_put {size} {sort} {index} {n} {v'} {v} exact told valued {out} {out'} {at} {at'} p {m'} {depth'} {opened'} {tag'} adv mm g =
       let fits = token_fits d w (stack_of depth opened) tag txt exact in
-      let onward : 0 < size' = omega (arith, told.size_is, fits.onward) in
+      let onward : 0 < size = omega (arith, told.size_is, fits.onward) in
       record {
-        refuses = λ x. absurd (false≢true (sym x));
-        reads =
-            λ x. record {
-              made = made_row sort depth index (m + 1) v;
-              rows =
-                  rows_made_lem w d txt m opened depth tag there exact told valued
-                  ∙ ap (with_rows (made_row sort depth index (m + 1) v)) (rows_left_lem w d txt m opened depth tag there exact told valued adv z mm g);
-              put = p;
-              counted = made_counted w d txt m opened depth tag there exact told valued adv z mm g;
-              few = omega (arith, made_many sort depth index (m + 1) v, made_few sort, onward);
-              within = omega (arith, told.size_is, fits.within);
-              deep = adv.low;
-            };
-        onward = λ x. onward;
-        more = λ x. omega (arith, made_few sort);
+        is = record {
+          part =
+              record {
+                made = made_row sort depth index (m + 1) v;
+                rows =
+                    rows_made_lem w d txt m opened depth tag there exact told valued
+                    ∙ ap (with_rows (made_row sort depth index (m + 1) v)) (rows_left_lem w d txt m opened depth tag there exact told valued adv refl mm g);
+                put = p;
+                counted = made_counted w d txt m opened depth tag there exact told valued {size' = size} adv refl mm g;
+                few = omega (arith, made_many sort depth index (m + 1) v, made_few sort, onward);
+                within = omega (arith, told.size_is, fits.within);
+                deep = adv.low;
+              };
+          onward = onward;
+          more = omega (arith, made_few sort);
+        };
       }
 
 -- ---- the loop
@@ -137,21 +133,13 @@ module _ {w : ℕ} {d : Declared} {txt : Bytes} {m : ℕ} {opened : Bytes} {dept
   pub putting_room : limit ≤ 8192 → at₁ ≤ at + 2187264
   putting_room h = omega (arith, p.part.put.small, p.part.counted, p.ceiling)
 
-  module _ {t : Bytes} {exact : Bool} {more m₂ : ℕ} {opened₂ : Bytes} {depth₂ : ℕ} {tag₂ : Bool} {out₂ : Bytes} {at₂ : ℕ} (e : t ≡ drop size txt)
-      (q : TokenPut w d t m₁ opened₁ depth₁ tag₁ out₁ at₁ exact more m₂ opened₂ depth₂ tag₂ out₂ at₂) where
-    pub putting_on : exact ≡ true → m₁ < limit → Putting w d txt m opened depth tag limit out at (size + more) m₂ opened₂ depth₂ tag₂ out₂ at₂
-    putting_on x h = record { part = part_then p.part e (q.reads x); ceiling = omega (arith, q.more x) }
+  module _ {t : Bytes} (e : t ≡ drop size txt) where
+    pub putting_on : {p₂ : Written} {opened₂ out₂ : Bytes} → TokenPut w d t m₁ opened₁ depth₁ tag₁ out₁ at₁ (Some p₂) opened₂ out₂ → m₁ < limit
+        → Putting w d txt m opened depth tag limit out at (size + p₂.size) p₂.progress.count opened₂ p₂.progress.depth p₂.progress.tag out₂ p₂.at
+    putting_on q h = record { part = part_then p.part e q.is.part; ceiling = omega (arith, q.is.more) }
 
-    pub putting_refused : exact ≡ false → {b : Bool} {size' m' depth' : ℕ} {tag' : Bool} {out' opened' : Bytes} {at' : ℕ} → b ≡ false
-        → SomePut w d txt m opened depth tag limit out at b size' m' opened' depth' tag' out' at'
-    putting_refused x g =
-        record {
-          refuses = λ y. part_refused p.part e (q.refuses x);
-          reads = λ y. absurd (false≢true (sym g ∙ y));
-          onward = λ y. absurd (false≢true (sym g ∙ y));
-          ceiling = λ y. absurd (false≢true (sym g ∙ y));
-          ends = λ y. absurd (false≢true (sym g ∙ y));
-        }
+    pub putting_refused : {opened₂ out₂ : Bytes} → TokenPut w d t m₁ opened₁ depth₁ tag₁ out₁ at₁ None opened₂ out₂ → SomePut w d txt m opened depth tag limit out at None opened₂ out₂
+    putting_refused q = record { is = part_refused p.part e q.is }
 
   -- the loop ends at the end of the text or at the limit
   abbrev Ended : Type 0
@@ -164,18 +152,20 @@ module _ {w : ℕ} {d : Declared} {txt : Bytes} {m : ℕ} {opened : Bytes} {dept
       by true e h = inr (ltb-false m₁ limit h)
       by false e h = inl (ltb-false size (length txt) e)
 
-  pub putting_ended : m < limit → (ltb size (length txt) && ltb m₁ limit) ≡ false → SomePut w d txt m opened depth tag limit out at true size m₁ opened₁ depth₁ tag₁ out₁ at₁
+  pub putting_ended : m < limit → (ltb size (length txt) && ltb m₁ limit) ≡ false
+      → SomePut w d txt m opened depth tag limit out at (Some (record { size = size; progress = record { depth = depth₁; tag = tag₁; count = m₁ }; at = at₁ })) opened₁ out₁
   putting_ended h g =
       record {
-        refuses = λ x. absurd (false≢true (sym x));
-        reads = λ x. p.part;
-        onward = λ x y. ⊎_elim (λ z. omega arith) (λ z. omega (arith, p.part.few, p.part.counted)) (ended g);
-        ceiling = λ x. p.ceiling;
-        ends = λ x y. ⊎_elim (λ z. z) (λ z. absurd (omega arith)) (ended g);
+        is = record {
+          part = p.part;
+          onward = λ y. ⊎_elim (λ z. omega arith) (λ z. omega (arith, p.part.few, p.part.counted)) (ended g);
+          ceiling = p.ceiling;
+          ends = λ y. ⊎_elim (λ z. z) (λ z. absurd (omega arith)) (ended g);
+        };
       }
 
 -- ---- all of them
-rows_there : (xs : List (Deep FlatRow)) (o : Option (List (Deep FlatRow))) → is_there (with_rows xs o) ≡ true → is_there o ≡ true
+rows_there : (xs : List (Deep FlatRow)) (o : maybe.Option (List (Deep FlatRow))) → is_there (with_rows xs o) ≡ true → is_there o ≡ true
 rows_there xs none e = e
 rows_there xs (some ys) e = refl
 
@@ -191,22 +181,15 @@ rows_start_lem w form txt opened s = λ i. rows_here w (declared_in form) (s.cou
 
 -- rows written up to a limit that is past the last are all rows
 module _ (w : ℕ) (form txt opened : Bytes) (read : RowsRead w form txt) {depth : ℕ} {tag : Bool} {m : ℕ} (s : Starts depth tag m) {out : Bytes} {at : ℕ}
-    {exact : Bool} {size m' : ℕ} {opened' : Bytes} {depth' : ℕ} {tag' : Bool} {out' : Bytes} {at' : ℕ}
-    (p : SomePut w (declared_in form) txt m opened depth tag 4097 out at exact size m' opened' depth' tag' out' at') where
-  abbrev rows : Option (List (Deep FlatRow))
+    {size m' : ℕ} {opened' : Bytes} {depth' : ℕ} {tag' : Bool} {out' : Bytes} {at' : ℕ}
+    (p : SomeRead w (declared_in form) txt m opened depth tag 4097 out at size m' opened' depth' tag' out' at') where
+  abbrev rows : maybe.Option (List (Deep FlatRow))
   rows = documents_in w form txt
 
-  all_exact : exact ≡ true
-  all_exact = by exact refl
-    where
-      by : (b : Bool) → exact ≡ b → exact ≡ true
-      by true e = e
-      by false e = absurd (false≢true (sym (ap is_there (sym (rows_start_lem w form txt opened s) ∙ p.refuses e)) ∙ read.there))
-
   part : PartRead w (declared_in form) txt m opened depth tag out at size m' opened' depth' tag' out' at'
-  part = p.reads all_exact
+  part = p.part
 
-  abbrev left : Option (List (Deep FlatRow))
+  abbrev left : maybe.Option (List (Deep FlatRow))
   left = rows_here w (declared_in form) m' opened' depth' tag' (drop size txt)
 
   are : rows ≡ with_rows part.made left
@@ -215,18 +198,28 @@ module _ (w : ℕ) (form txt opened : Bytes) (read : RowsRead w form txt) {depth
   there : is_there (with_rows part.made left) ≡ true
   there = sym (ap is_there are) ∙ read.there
 
-  many : (o : Option (List (Deep FlatRow))) → is_there o ≡ true → length part.made ≤ length (rows_or (with_rows part.made o))
+  many : (o : maybe.Option (List (Deep FlatRow))) → is_there o ≡ true → length part.made ≤ length (rows_or (with_rows part.made o))
   many none e = absurd (false≢true e)
   many (some ys) e = omega (arith, length-append part.made ys)
 
   few : m' < 4097
-  few = omega (arith, s.count_is, part.counted, many left (rows_there part.made left there), ap (λ (o : Option (List (Deep FlatRow))). length (rows_or o)) are, read.few)
+  few = omega (arith, s.count_is, part.counted, many left (rows_there part.made left there), ap (λ (o : maybe.Option (List (Deep FlatRow))). length (rows_or o)) are, read.few)
 
   over : left ≡ elim (is_none (stack_of depth' opened')) [ true ↦ some [] | false ↦ none ]
-  over = rows_ended (declared_in form) w (m' + 1) (stack_of depth' opened') tag' (drop size txt) (omega (arith, p.ends all_exact few, length-drop size txt))
+  over = rows_ended (declared_in form) w (m' + 1) (stack_of depth' opened') tag' (drop size txt) (omega (arith, p.ends few, length-drop size txt))
 
-  pub documents_put : Laid (each (row_bytes w) (rows_or rows)) out at at' out'
-  documents_put =
+  all_put : Laid (each (row_bytes w) (rows_or rows)) out at at' out'
+  all_put =
       let whole : rows ≡ with_rows part.made (elim (is_none (stack_of depth' opened')) [ true ↦ some [] | false ↦ none ]) = are ∙ ap (with_rows part.made) over in
       let made : rows_or rows ≡ part.made = ap rows_or whole ∙ rows_all part.made (stack_of depth' opened') (sym (ap is_there whole) ∙ read.there) in
       laid_as (ap (each (row_bytes w)) made) part.put.laid
+
+-- .. and there are rows
+pub documents_there : (w : ℕ) (form txt opened : Bytes) → RowsRead w form txt → {depth : ℕ} {tag : Bool} {m : ℕ} → Starts depth tag m → {out : Bytes} {at : ℕ}
+    {opened' out' : Bytes} → SomePut w (declared_in form) txt m opened depth tag 4097 out at None opened' out' → ⊥
+documents_there w form txt opened read s p = false≢true (sym (ap is_there (sym (rows_start_lem w form txt opened s) ∙ p.is)) ∙ read.there)
+
+pub documents_put : (w : ℕ) (form txt opened : Bytes) → RowsRead w form txt → {depth : ℕ} {tag : Bool} {m : ℕ} → Starts depth tag m → {out : Bytes} {at : ℕ} {k : Written}
+    {opened' out' : Bytes} → SomePut w (declared_in form) txt m opened depth tag 4097 out at (Some k) opened' out'
+    → Laid (each (row_bytes w) (rows_or (documents_in w form txt))) out at k.at out'
+documents_put w form txt opened read s p = all_put w form txt opened read s p.is

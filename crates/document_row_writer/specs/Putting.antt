@@ -1,5 +1,7 @@
 -- The rows that the documents of a text say, written: a token at a time, some rows at a time, all of them.
 use Rattle.std.specs.Prelude.{ℕ, ◌+◌, ◌*◌, ◌<◌, ◌≤◌, ◌≡◌, Bool, true, false, List, [], ◌∷◌, eqb, length, drop}
+use Rattle.std.specs.Prelude as code
+use Rattle.std.specs.Prelude.{MatchOption}
 use Rattle.std.proofs.Math.Option.{Option, none, some}
 use Rattle.rules.specs.Bytes.{Bytes}
 use Rattle.rules.specs.Preorder.{Deep}
@@ -9,6 +11,7 @@ use Rattle.codec.specs.Laid.{Laid}
 use Rattle.layout.specs.RowBytes.{row_of}
 use Rattle.document_tokens.specs.Tokens.{Declared, declared_in, with_rows, document_rows}
 use Rattle.document_tokens.specs.Telling.{stack_of}
+use Rattle.document_row_writer.specs.declared.Written.{Written}
 
 -- the rows of the documents of a text, by a form
 abbrev pub documents_in : ℕ → Bytes → Bytes → Option (List (Deep FlatRow))
@@ -74,20 +77,27 @@ pub record Kept (out opened' out' : Bytes) : Type 0 where
   pub stack : length opened' ≡ 256
   pub long : length out' ≡ length out
 
--- a token is exact, and it was read; or there are no rows
-pub record TokenPut (w : ℕ) (d : Declared) (txt : Bytes) (m : ℕ) (opened : Bytes) (depth : ℕ) (tag : Bool) (out : Bytes) (at : ℕ)
-    (exact : Bool) (size m' : ℕ) (opened' : Bytes) (depth' : ℕ) (tag' : Bool) (out' : Bytes) (at' : ℕ) : Type 0 where
-  pub refuses : exact ≡ false → rows_here w d m opened depth tag txt ≡ none
-  pub reads : exact ≡ true → PartRead w d txt m opened depth tag out at size m' opened' depth' tag' out' at'
-  pub onward : exact ≡ true → 0 < size
-  pub more : exact ≡ true → m' ≤ m + 1
+-- a token was read
+pub record TokenRead (w : ℕ) (d : Declared) (txt : Bytes) (m : ℕ) (opened : Bytes) (depth : ℕ) (tag : Bool) (out : Bytes) (at : ℕ)
+    (size m' : ℕ) (opened' : Bytes) (depth' : ℕ) (tag' : Bool) (out' : Bytes) (at' : ℕ) : Type 0 where
+  pub part : PartRead w d txt m opened depth tag out at size m' opened' depth' tag' out' at'
+  pub onward : 0 < size
+  pub more : m' ≤ m + 1
 
--- every token is exact up to row `limit`, or to the end of the text if that comes first, and they were read; or there
--- are no rows
-pub record SomePut (w : ℕ) (d : Declared) (txt : Bytes) (m : ℕ) (opened : Bytes) (depth : ℕ) (tag : Bool) (limit : ℕ) (out : Bytes) (at : ℕ)
-    (exact : Bool) (size m' : ℕ) (opened' : Bytes) (depth' : ℕ) (tag' : Bool) (out' : Bytes) (at' : ℕ) : Type 0 where
-  pub refuses : exact ≡ false → rows_here w d m opened depth tag txt ≡ none
-  pub reads : exact ≡ true → PartRead w d txt m opened depth tag out at size m' opened' depth' tag' out' at'
-  pub onward : exact ≡ true → 0 < length txt → 0 < size
-  pub ceiling : exact ≡ true → m' ≤ limit
-  pub ends : exact ≡ true → m' < limit → length txt ≤ size
+-- .. or it is not exact, and there are no rows
+pub record TokenPut (w : ℕ) (d : Declared) (txt : Bytes) (m : ℕ) (opened : Bytes) (depth : ℕ) (tag : Bool) (out : Bytes) (at : ℕ) (r : code.Option Written) (opened' out' : Bytes) : Type 0 where
+  pub is : MatchOption r (rows_here w d m opened depth tag txt ≡ none)
+      (λ p. TokenRead w d txt m opened depth tag out at p.size p.progress.count opened' p.progress.depth p.progress.tag out' p.at)
+
+-- tokens were read up to row `limit`, or to the end of the text if that comes first
+pub record SomeRead (w : ℕ) (d : Declared) (txt : Bytes) (m : ℕ) (opened : Bytes) (depth : ℕ) (tag : Bool) (limit : ℕ) (out : Bytes) (at : ℕ)
+    (size m' : ℕ) (opened' : Bytes) (depth' : ℕ) (tag' : Bool) (out' : Bytes) (at' : ℕ) : Type 0 where
+  pub part : PartRead w d txt m opened depth tag out at size m' opened' depth' tag' out' at'
+  pub onward : 0 < length txt → 0 < size
+  pub ceiling : m' ≤ limit
+  pub ends : m' < limit → length txt ≤ size
+
+-- .. or one of them is not exact, and there are no rows
+pub record SomePut (w : ℕ) (d : Declared) (txt : Bytes) (m : ℕ) (opened : Bytes) (depth : ℕ) (tag : Bool) (limit : ℕ) (out : Bytes) (at : ℕ) (r : code.Option Written) (opened' out' : Bytes) : Type 0 where
+  pub is : MatchOption r (rows_here w d m opened depth tag txt ≡ none)
+      (λ p. SomeRead w d txt m opened depth tag limit out at p.size p.progress.count opened' p.progress.depth p.progress.tag out' p.at)

@@ -6,6 +6,8 @@ use Prim.Native.Nat.{ℕ, zero, suc, ◌+◌, ◌*◌, ◌<◌, ◌≤◌}
 use native.Mathlib.Omega.{arith}
 use native.Mathlib.Nat.{mul-suc, zero-add}
 use lib.Dec.{eqb}
+use native.Mathlib.Numerals.{add-one}
+use Rattle.std.specs.Prelude.{Option, None, Some, MatchOption}
 use lib.ListN.{length, take, drop}
 use lib.Seq.{drop-drop}
 use Rattle.rules.specs.Bytes.{Bytes, same}
@@ -17,6 +19,7 @@ use Rattle.lookup.specs.Bodies.{bodies_of}
 use Rattle.lookup.proofs.Laws.{from_all, from_none}
 use Rattle.printing_parts.specs.Parts.{from_definitions, from_attributes, definition_part, attribute_part, attributes_from}
 use Rattle.printing_parts.proofs.PartLaws.{attribute_step}
+use Rattle.declaration_scan.specs.Names.{PlaceIn}
 use Rattle.document_tokens.specs.Tokens.{kind_of_definition, attribute_among}
 
 -- ---- how many
@@ -69,38 +72,51 @@ among_none o n [] e = refl
 among_none o n (a ∷ table) e = absurd (omega arith)
 
 -- the attributes from number i on are left
-pub record Placing (bs : Bytes) (o : ℕ) (n : Bytes) (count i : ℕ) : Type 0 where
-  pub counts : count ≡ attribute_count bs
-  pub low : i ≤ count
-  pub rest : attribute_among o n (bodies_of bs).attributes ≡ i + attribute_among o n (attributes_from bs count i)
+record Placing (bs : Bytes) (o : ℕ) (n : Bytes) (i : ℕ) : Type 0 where
+  low : i ≤ attribute_count bs
+  rest : attribute_among o n (bodies_of bs).attributes ≡ i + attribute_among o n (attributes_from bs (attribute_count bs) i)
 
-pub placing_start : (bs : Bytes) (o : ℕ) (n : Bytes) (count : ℕ) → count ≡ attribute_count bs → Placing bs o n count 0
-unfolding bodies_of from_attributes
-placing_start bs o n count e =
-    record {
-      counts = e;
-      low = omega arith;
-      rest = sym
-          (zero-add _
-          ∙ ap (attribute_among o n)
-          (from_all read_attribute (attribute_size (width_of bs)) (from_attributes bs) count 0 ∙ ap (λ (k : ℕ). read_many read_attribute (attribute_size (width_of bs)) k (from_attributes bs)) e));
-    }
+abbrev attribute_at : Bytes → ℕ → Bytes → ℕ → Bool
+attribute_at bs o n i = eqb o (read_attribute (attribute_part bs i)).owner && same n (read_attribute (attribute_part bs i)).name
 
-module _ {bs : Bytes} {o : ℕ} {n : Bytes} {count i : ℕ} (p : Placing bs o n count i) where
-  module _ (h : i < count) {r : Bool} (e : r ≡ (eqb o (read_attribute (attribute_part bs i)).owner && same n (read_attribute (attribute_part bs i)).name)) where
-    here : attribute_among o n (bodies_of bs).attributes ≡ i + attribute_among o n (read_attribute (attribute_part bs i) ∷ attributes_from bs count (i + 1))
-    here = p.rest ∙ ap (λ (l : List FlatAttribute). i + attribute_among o n l) (attribute_step bs count i h)
+module _ (bs : Bytes) (o : ℕ) (n : Bytes) where
+  placing_start : Placing bs o n 0
+  unfolding bodies_of from_attributes
+  placing_start =
+      record {
+        low = omega arith;
+        rest = sym (zero-add _ ∙ ap (attribute_among o n) (from_all read_attribute (attribute_size (width_of bs)) (from_attributes bs) (attribute_count bs) 0));
+      }
 
-    pub placing_hit : r ≡ true → i ≡ attribute_among o n (bodies_of bs).attributes
-    placing_hit q = sym (here ∙ omega (arith, among_here o n (read_attribute (attribute_part bs i)) (attributes_from bs count (i + 1)) (sym e ∙ q)))
+  module _ {i : ℕ} (p : Placing bs o n i) where
+    module _ (h : i < attribute_count bs) where
+      abbrev later : List FlatAttribute
+      later = attributes_from bs (attribute_count bs) (i + 1)
 
-    pub placing_on : r ≡ false → Placing bs o n count (i + 1)
-    placing_on q =
-        record {
-          counts = p.counts;
-          low = omega arith;
-          rest = here ∙ omega (arith, among_past o n (read_attribute (attribute_part bs i)) (attributes_from bs count (i + 1)) (sym e ∙ q));
-        }
+      here : attribute_among o n (bodies_of bs).attributes ≡ i + attribute_among o n (read_attribute (attribute_part bs i) ∷ later)
+      here = p.rest ∙ ap (λ (l : List FlatAttribute). i + attribute_among o n l) (attribute_step bs (attribute_count bs) i h)
 
-  pub placing_end : count ≤ i → i ≡ attribute_among o n (bodies_of bs).attributes
-  placing_end h = sym (p.rest ∙ omega (arith, among_none o n (attributes_from bs count i) (ap length (from_none read_attribute (attribute_size (width_of bs)) (from_attributes bs) count i h))))
+      placing_hit : attribute_at bs o n i ≡ true → i ≡ attribute_among o n (bodies_of bs).attributes
+      placing_hit q = sym (here ∙ omega (arith, among_here o n (read_attribute (attribute_part bs i)) later q))
+
+      placing_on : attribute_at bs o n i ≡ false → Placing bs o n (i + 1)
+      placing_on q = record { low = omega arith; rest = here ∙ omega (arith, among_past o n (read_attribute (attribute_part bs i)) later q) }
+
+    placing_end : attribute_count bs ≤ i → attribute_among o n (bodies_of bs).attributes ≡ i
+    placing_end h =
+        p.rest
+        ∙ omega (arith, among_none o n (attributes_from bs (attribute_count bs) i) (ap length (from_none read_attribute (attribute_size (width_of bs)) (from_attributes bs) (attribute_count bs) i h)))
+
+  placing_to : (i : ℕ) → i ≤ attribute_count bs → ((k : ℕ) → k < i → attribute_at bs o n k ≡ false) → Placing bs o n i
+  placing_to zero h f = placing_start
+  placing_to (suc i) h f = rw (← add-one i) (placing_on (placing_to i (omega arith) (λ k l. f k (omega arith))) (omega arith) (f i (omega arith)))
+
+  -- what a search from the front says
+  pub attribute_found : {count : ℕ} → count ≡ attribute_count bs → (r : Option ℕ)
+      → MatchOption r ((k : ℕ) → 0 ≤ k → k < count → attribute_at bs o n k ≡ false)
+      (λ i. (0 ≤ i) × (i < count) × (attribute_at bs o n i ≡ true) × ((k : ℕ) → 0 ≤ k → k < i → attribute_at bs o n k ≡ false))
+      → PlaceIn (length (bodies_of bs).attributes) (attribute_among o n (bodies_of bs).attributes) r
+  attribute_found e None f =
+      record { found = placing_end (placing_to (attribute_count bs) (omega arith) (λ k h. f k (omega arith) (omega arith))) (omega arith) ∙ sym (attributes_many bs) }
+  attribute_found e (Some i) (z, h, q, f) =
+      record { found = (placing_hit (placing_to i (omega arith) (λ k l. f k (omega arith) l)) (omega arith) q, omega (arith, attributes_many bs)) }

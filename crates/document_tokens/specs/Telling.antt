@@ -1,8 +1,12 @@
 -- What the code tells of a token.
-use Rattle.std.specs.Prelude.{ℕ, zero, suc, ◌+◌, ◌*◌, ◌≤◌, ◌≡◌, Bool, true, ◌&&◌, List, [], ◌∷◌, eqb, length, get_or, take, drop}
+use Rattle.std.specs.Prelude.{ℕ, zero, suc, ◌+◌, ◌*◌, ◌≤◌, ◌≡◌, Bool, ◌&&◌, List, [], ◌∷◌, eqb, length, get_or, take, drop, Option, None, Some, is_some, IfSome}
 use Rattle.rules.specs.Bytes.{Bytes, ascii}
 use Rattle.rules.specs.Decode.{definition_count, attribute_count}
 use Rattle.text_scan.specs.Scan.{first_byte, starts_with, front_while, after_while, no_quote, unescaped, value_of_raw}
+use Rattle.document_tokens.specs.declared.RowSort.{RowSort}
+use Rattle.document_tokens.specs.declared.RowSort.TheVariants.{Element, Attribute, Text}
+use Rattle.document_tokens.specs.declared.Token as code
+use Rattle.document_tokens.specs.declared.Quoted.{Quoted}
 use Rattle.document_tokens.specs.Tokens.{Token, short_value}
 
 -- what the code asks of a form: its numbers within the ceilings, and its definitions all there
@@ -25,18 +29,29 @@ pub record TokenTold (t : Token) (size sort index n : ℕ) (value' : Bytes) : Ty
   pub length_is : n ≡ length t.value
   pub value_is : take n value' ≡ t.value
 
--- whether it is exact, and what it is then
-pub record Tells (t : Token) (value : Bytes) (exact : Bool) (size sort index n : ℕ) (value' : Bytes) : Type 0 where
-  pub is : exact ≡ t.exact
-  pub told : exact ≡ true → TokenTold t size sort index n value'
+-- the code of the row that a token makes, 0 if it makes none
+abbrev pub sort_code : Option RowSort → ℕ
+sort_code None = 0
+sort_code (Some Element) = 1
+sort_code (Some Attribute) = 2
+sort_code (Some Text) = 3
+
+-- it is there if it is exact, and is what it is then
+pub record Tells (t : Token) (value : Bytes) (r : Option code.Token) (value' : Bytes) : Type 0 where
+  pub is : is_some r ≡ t.exact
+  pub told : IfSome r (λ k. TokenTold t k.size (sort_code k.sort) k.index k.length value')
   pub long : length value' ≡ length value
 
 -- ---- values
--- a value of at most w bytes, of which raw is the escape: n bytes at the front of a buffer
-pub record ValueRead (w : ℕ) (raw value : Bytes) (exact : Bool) (n : ℕ) (value' : Bytes) : Type 0 where
-  pub is : exact ≡ short_value w (unescaped 0 raw)
-  pub size : exact ≡ true → n ≡ length (value_of_raw raw)
-  pub stored : exact ≡ true → take n value' ≡ value_of_raw raw
+-- n bytes at the front of a buffer are a value
+pub record ValueTold (v : Bytes) (n : ℕ) (value' : Bytes) : Type 0 where
+  pub size : n ≡ length v
+  pub stored : take n value' ≡ v
+
+-- a value of at most w bytes, of which raw is the escape
+pub record ValueRead (w : ℕ) (raw value : Bytes) (r : Option ℕ) (value' : Bytes) : Type 0 where
+  pub is : is_some r ≡ short_value w (unescaped 0 raw)
+  pub told : IfSome r (λ n. ValueTold (value_of_raw raw) n value')
   pub long : length value' ≡ length value
 
 -- `="`, such a value and `"`
@@ -53,7 +68,7 @@ pub record QuoteTold (txt : Bytes) (raw n : ℕ) (value' : Bytes) : Type 0 where
   pub length_is : n ≡ length (value_of_raw (quoted_raw txt))
   pub value_is : take n value' ≡ value_of_raw (quoted_raw txt)
 
-pub record Quotes (w : ℕ) (txt value : Bytes) (exact : Bool) (raw n : ℕ) (value' : Bytes) : Type 0 where
-  pub is : exact ≡ is_quoted w txt
-  pub told : exact ≡ true → QuoteTold txt raw n value'
+pub record Quotes (w : ℕ) (txt value : Bytes) (r : Option Quoted) (value' : Bytes) : Type 0 where
+  pub is : is_some r ≡ is_quoted w txt
+  pub told : IfSome r (λ q. QuoteTold txt q.raw q.length value')
   pub long : length value' ≡ length value

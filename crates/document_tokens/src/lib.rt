@@ -1,22 +1,37 @@
 //! The tokens of the documents of a text.
 #![tactic(auto)]
 
-ghost use Rattle.std.specs.Prelude.{◌≡◌, ◌&&◌, false, [], ◌≤◌, eqb, length};
+ghost use Rattle.std.specs.Prelude.{◌≡◌, ◌&&◌, [], ◌≤◌, eqb, length, None, Some};
 ghost use Rattle.rules.specs.Bytes.{same};
 ghost use Rattle.rules.specs.Decode.{read_attribute};
 ghost use Rattle.lookup.specs.Bodies.{bodies_of};
+ghost use Rattle.declaration_scan.specs.Names.{PlaceIn};
 ghost use Rattle.document_tokens.specs.Tokens.{declared_in, kind_of_definition, attribute_among, element_token, attribute_token, text_token, tag_token, start_end_token, end_token, token_at};
-ghost use Rattle.document_tokens.specs.Telling.{FormRoom, stack_of, Tells, ValueRead, Quotes};
+ghost use Rattle.document_tokens.specs.Telling.{sort_code, FormRoom, stack_of, Tells, ValueRead, Quotes};
 
-use text_scan::Unescaped;
+/// The sort of a row.
+#[derive(Clone, Copy, Debug, PartialEq, Eq)]
+pub enum RowSort {
+    Element = 1,
+    Attribute = 2,
+    Text = 3,
+}
 
-/// What stands at a place of a text. `exact`: as it is printed; `sort`: the code of the row that it makes, 0 if it
-/// makes none; `length`: of its value, which is in a buffer.
+impl From<RowSort> for u8 {
+    ghost from_gives = { λ sort code. code ≡ sort_code (Some sort) };
+
+    /// The code in the store.
+    fn from(sort: RowSort) -> u8 {
+        sort as u8
+    }
+}
+
+/// What stands at a place of a text as it is printed. `sort`: of the row that it makes, if it makes one; `length`: of
+/// its value, which is in a buffer.
 #[derive(Clone, Copy)]
 pub struct Token {
-    pub exact: bool,
     pub size: usize,
-    pub sort: u8,
+    pub sort: Option<RowSort>,
     pub index: usize,
     pub length: usize,
 }
@@ -30,19 +45,12 @@ fn is_attribute(rec: &[u8], o: usize, name: &[u8]) -> bool
     (o == layout::attribute_owner(rec)) & codec::equal(name, layout::attribute_name(rec))
 }
 
-// Where the attribute of an owner with this name stands; past the last where there is none.
-fn attribute_place(form: &[u8], o: usize, name: &[u8]) -> usize
-    ensures { result ≡ attribute_among o name.now (bodies_of form.now).attributes }
+// Where the attribute of an owner with this name stands, if there is one.
+fn attribute_place(form: &[u8], o: usize, name: &[u8]) -> Option<usize>
+    ensures { PlaceIn (length (bodies_of form.now).attributes) (attribute_among o name.now (bodies_of form.now).attributes) result }
 {
     let count = layout::attribute_count(form);
-    let mut i = 0;
-    while i < count {
-        if is_attribute(printing_parts::attribute(form, i), o, name) {
-            return i;
-        }
-        i += 1;
-    }
-    i
+    (0..count).find(|&i| is_attribute(printing_parts::attribute(form, i), o, name))
 }
 
 // The code of the kind of definition o; 0 where there is none.
@@ -57,162 +65,143 @@ fn kind_of(form: &[u8], o: usize) -> u8
 
 // ---- the tokens
 
-// No token.
-fn no_token() -> Token
-    ensures { result.exact ≡ false }
-{
-    Token {
-        exact: false,
-        size: 1,
-        sort: 0,
-        index: 0,
-        length: 0,
-    }
-}
-
 // A token that makes no row.
-fn rowless_token(exact: bool, size: usize) -> Token
-    ensures { (result.exact ≡ exact) × (result.size ≡ size) × (result.sort ≡ 0) × (result.index ≡ 0) × (result.length ≡ 0) }
+fn rowless_token(size: usize) -> Token
+    ensures { result ≡ record { size = size; sort = None; index = 0; length = 0 } }
 {
     Token {
-        exact,
         size,
-        sort: 0,
+        sort: None,
         index: 0,
         length: 0,
     }
 }
 
 // `>`
-fn start_end_token(text: &[u8]) -> Token
-    ensures { Tells (start_end_token text.now) [] result.exact result.size result.sort result.index result.length [] }
+fn start_end_token(text: &[u8]) -> Option<Token>
+    ensures { Tells (start_end_token text.now) [] result [] }
 {
-    rowless_token(codec::byte(text, 0) == b'>', 1)
+    (codec::byte(text, 0) == b'>').then_some(rowless_token(1))
 }
 
-// What ends the element of definition o in so many others: `</`, its name, `>`, and a line feed after a document.
-fn end_token(form: &[u8], o: usize, others: usize, text: &[u8]) -> Token
-    ensures { Tells (end_token (declared_in form.now) o others text.now) [] result.exact result.size result.sort result.index result.length [] }
+// What ends the element of definition o in so many others.
+fn end_token(form: &[u8], o: usize, others: usize, text: &[u8]) -> Option<Token>
+    ensures { Tells (end_token (declared_in form.now) o others text.now) [] result [] }
 {
+    if !text_scan::starts_with(text, b"</") {
+        return None;
+    }
     let name = printing_parts::name_of(form, o);
     let rest = codec::after(text, 2);
-    if !text_scan::starts_with(text, b"</") {
-        return no_token();
-    }
     if !text_scan::starts_with(rest, name) {
-        return no_token();
+        return None;
     }
     let tail = codec::after(rest, name.len());
     if others == 0 {
-        return rowless_token(text_scan::starts_with(tail, b">\n"), 4 + name.len());
+        return text_scan::starts_with(tail, b">\n").then_some(rowless_token(4 + name.len()));
     }
-    rowless_token(text_scan::starts_with(tail, b">"), 3 + name.len())
+    text_scan::starts_with(tail, b">").then_some(rowless_token(3 + name.len()))
 }
 
 // `<` and a name.
-fn element_token(form: &[u8], text: &[u8]) -> Token
+fn element_token(form: &[u8], text: &[u8]) -> Option<Token>
     requires { FormRoom form.now }
-    ensures { Tells (element_token (declared_in form.now) text.now) [] result.exact result.size result.sort result.index result.length [] }
+    ensures { Tells (element_token (declared_in form.now) text.now) [] result [] }
 {
+    if codec::byte(text, 0) != b'<' {
+        return None;
+    }
     let rest = codec::after(text, 1);
     let n = text_scan::name_length(rest);
     let name = codec::first(rest, n);
     let count = layout::definition_count(form);
     let definitions = codec::after(form, layout::HEADER_SIZE);
-    let i = declaration_scan::definition_place(definitions, count, name);
-    Token {
-        exact: (codec::byte(text, 0) == b'<') & (i < count),
+    let index = declaration_scan::definition_place(definitions, count, name)?;
+    Some(Token {
         size: 1 + n,
-        sort: 1,
-        index: i,
+        sort: Some(RowSort::Element),
+        index,
         length: 0,
-    }
+    })
 }
 
 // ---- tokens with a value
 
-// The value of at most w bytes that `raw` is the escape of.
-fn read_value(w: usize, raw: &[u8], value: &mut [u8]) -> Unescaped
+// The length of the value of at most w bytes that `raw` is the escape of, if it is.
+fn read_value(w: usize, raw: &[u8], value: &mut [u8]) -> Option<usize>
     requires { w ≤ length value.old }
-    ensures { ValueRead w raw.now value.old result.exact result.length value.new }
+    ensures { ValueRead w raw.now value.old result value.new }
 {
-    let read = text_scan::unescape(raw, value);
-    let exact = read.exact & (read.length <= w);
-    let length = read.length;
-    Unescaped { exact, length }
+    let length = text_scan::unescape(raw, value)?;
+    (length <= w).then_some(length)
 }
 
 // `>` and a text, which may be empty.
-fn text_token(w: usize, text: &[u8], value: &mut [u8]) -> Token
+fn text_token(w: usize, text: &[u8], value: &mut [u8]) -> Option<Token>
     requires { w ≤ length value.old }
-    ensures { Tells (text_token w text.now) value.old result.exact result.size result.sort result.index result.length value.new }
+    ensures { Tells (text_token w text.now) value.old result value.new }
 {
+    if codec::byte(text, 0) != b'>' {
+        return None;
+    }
     let rest = codec::after(text, 1);
     let n = text_scan::length_before(rest, b'<');
-    let read = read_value(w, codec::first(rest, n), value);
-    Token {
-        exact: (codec::byte(text, 0) == b'>') & read.exact,
+    let length = read_value(w, codec::first(rest, n), value)?;
+    Some(Token {
         size: 1 + n,
-        sort: 3,
+        sort: Some(RowSort::Text),
         index: 0,
-        length: read.length,
-    }
+        length,
+    })
 }
 
-// What is told of a value in quotes: whether it is exact, and its length as it stands and as it is meant.
+// How long a value in quotes is as it stands, and as it is meant.
 #[derive(Clone, Copy)]
 struct Quoted {
-    exact: bool,
     raw: usize,
     length: usize,
 }
 
 // `="`, a value and `"`.
-fn quoted_value(w: usize, text: &[u8], value: &mut [u8]) -> Quoted
+fn quoted_value(w: usize, text: &[u8], value: &mut [u8]) -> Option<Quoted>
     requires { w ≤ length value.old }
-    ensures { Quotes w text.now value.old result.exact result.raw result.length value.new }
+    ensures { Quotes w text.now value.old result value.new }
 {
+    if !text_scan::starts_with(text, b"=\"") {
+        return None;
+    }
     let rest = codec::after(text, 2);
     let raw = text_scan::length_before(rest, b'"');
-    let read = read_value(w, codec::first(rest, raw), value);
-    let ended = (codec::byte(rest, raw) == b'"') & read.exact;
-    Quoted {
-        exact: text_scan::starts_with(text, b"=\"") & ended,
-        raw,
-        length: read.length,
+    if codec::byte(rest, raw) != b'"' {
+        return None;
     }
+    let length = read_value(w, codec::first(rest, raw), value)?;
+    Some(Quoted { raw, length })
 }
 
 // A blank, a name, `="`, a value and `"`, of an attribute of definition o.
-fn attribute_token(w: usize, form: &[u8], o: usize, text: &[u8], value: &mut [u8]) -> Token
+fn attribute_token(w: usize, form: &[u8], o: usize, text: &[u8], value: &mut [u8]) -> Option<Token>
     requires { w ≤ length value.old }
-    ensures { Tells (attribute_token (declared_in form.now) w o text.now) value.old
-        result.exact result.size result.sort result.index result.length value.new }
+    ensures { Tells (attribute_token (declared_in form.now) w o text.now) value.old result value.new }
 {
     let rest = codec::after(text, 1);
     let n = text_scan::name_length(rest);
-    let i = attribute_place(form, o, codec::first(rest, n));
-    let there = i < layout::attribute_count(form);
-    let read = quoted_value(w, codec::after(rest, n), value);
-    if !(there & read.exact) {
-        return no_token();
-    }
-    Token {
-        exact: true,
+    let index = attribute_place(form, o, codec::first(rest, n))?;
+    let read = quoted_value(w, codec::after(rest, n), value)?;
+    Some(Token {
         size: 4 + (n + read.raw),
-        sort: 2,
-        index: i,
+        sort: Some(RowSort::Attribute),
+        index,
         length: read.length,
-    }
+    })
 }
 
 // ---- which token
 
 // A token in the start tag of an element of definition o.
-fn tag_token(w: usize, form: &[u8], o: usize, text: &[u8], value: &mut [u8]) -> Token
+fn tag_token(w: usize, form: &[u8], o: usize, text: &[u8], value: &mut [u8]) -> Option<Token>
     requires { w ≤ length value.old }
-    ensures { Tells (tag_token (declared_in form.now) w o text.now) value.old
-        result.exact result.size result.sort result.index result.length value.new }
+    ensures { Tells (tag_token (declared_in form.now) w o text.now) value.old result value.new }
 {
     if codec::byte(text, 0) == b' ' {
         return attribute_token(w, form, o, text, value);
@@ -223,7 +212,7 @@ fn tag_token(w: usize, form: &[u8], o: usize, text: &[u8], value: &mut [u8]) -> 
     start_end_token(text)
 }
 
-/// The token at the front of a text, where the elements of the `depth` definitions `opened` are opened, the last of
+/// The token at the front of a text, if one stands there exactly, where the elements of the `depth` definitions `opened` are opened, the last of
 /// them innermost, and `tag`: its start tag is not ended.
 pub fn token_at(
     w: usize,
@@ -233,20 +222,19 @@ pub fn token_at(
     depth: usize,
     tag: bool,
     value: &mut [u8],
-) -> Token
+) -> Option<Token>
     requires { (w ≤ length value.old) × FormRoom form.now × (depth ≤ 255) }
-    ensures { Tells (token_at (declared_in form.now) w (stack_of depth opened.now) tag text.now) value.old
-        result.exact result.size result.sort result.index result.length value.new }
+    ensures { Tells (token_at (declared_in form.now) w (stack_of depth opened.now) tag text.now) value.old result value.new }
 {
     let ends = text_scan::starts_with(text, b"</");
     if !tag & !ends {
         if depth < 255 {
             return element_token(form, text);
         }
-        return no_token();
+        return None;
     }
     if depth == 0 {
-        return no_token();
+        return None;
     }
     let others = depth - 1;
     let o = layout::wide(opened[others]);

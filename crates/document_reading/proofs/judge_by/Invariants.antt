@@ -1,15 +1,9 @@
-use Prim.Native.Nat.{ℕ}
-use mathlib.Core.Path.{◌≡◌, refl, ap, ◌∙◌}
-use native.Mathlib.Omega.{arith}
-use borrow.Author.Tests.{not-true, not-false}
-use lib.ListN.{length, length-drop, length-replicate}
+use mathlib.Core.Path.{◌≡◌}
+use lib.ListN.{length}
 use Rattle.row_check.specs.Walking.{before_read}
 use Rattle.document_tokens.specs.Tokens.{declared_in}
 use Rattle.document_reading.specs.Judging.{rows_behind}
-use Rattle.document_reading.proofs.FormLaws.{form_room, form_few}
-use Rattle.document_reading.proofs.LoopLaws.{goes_further, put_at_lem, Judging, judging_start, judging_over, judging_refused, judging_on, judging_ended}
-use Rattle.document_reading.proofs.LoopLaws.{batch_room, batch_whole, batch_size, batch_walked}
-use borrow.Author.Rules.{rules}
+use Rattle.document_reading.proofs.LoopLaws.{Judging}
 use Rattle.document_reading.proofs.judge_by.Given as goal
 
 -- the rows of the text that is left, judged from this state on, give the verdict; the array of rows keeps its length

@@ -4,7 +4,6 @@ use Prim.Native.Nat.{ℕ}
 use native.Mathlib.Omega.{arith}
 use lib.ListN.{length-replicate}
 use Rattle.document_reading.proofs.FormLaws.{form_few}
-use borrow.Author.Rules.{rules}
 use Rattle.document_reading.proofs.judge_documents.Goals as goal
 
 pub lay_table-requires : goal.lay_table-requires

@@ -1,20 +1,23 @@
--- `document_row_writer::advance` meets its contract: an element opens its definition, an end tag closes the innermost,
--- any other token leaves them (`opens`, `closes`, `stays` of StackLaws).
-use Rattle.document_row_writer.proofs.StackLaws.{opens, closes, stays}
-use borrow.Author.Rules.{rules}
+-- `document_row_writer::advance` meets its contract: an element opens its definition, an end tag closes the innermost
+-- (`opens`, `closes` of StackLaws), any other token leaves them.
+use mathlib.Core.Path.{◌≡◌, ap, ap₂, ◌∙◌}
+use mathlib.Core.Bool.{Bool, ◌&&◌, not}
+use native.Mathlib.Omega.{arith}
+use borrow.Author.Tests.{eq-eqb}
+use Rattle.std.specs.Prelude.{Some}
+use Rattle.document_tokens.specs.Telling.{sort_code}
+use Rattle.document_row_writer.proofs.StackLaws.{opens, closes}
 use Rattle.document_row_writer.proofs.advance.Goals as goal
 
-pub returns-then-sort-eq1 : goal.returns-then-sort-eq1
-returns-then-sort-eq1 c =
+pub returns-in-Some-Element : goal.returns-in-Some-Element
+returns-in-Some-Element c =
     let a = c.args in
-    opens a.tag a.opened.now a.depth a.sort a.index c.requires.0 c.requires.1 c.if-sort-eq1.true (c.requires.3 c.if-sort-eq1.true)
+    let e : sort_code a.sort ≡ 1 = ap sort_code c.in-Some-Element.is ∙ ap (λ s. sort_code (Some s)) (rw c.in-Some-Element.is at c.in-Some-Element.field-0-is) in
+    opens a.tag a.opened.now a.depth (sort_code a.sort) a.index c.requires.0 c.requires.1 e (c.requires.3 e)
 
-pub returns-then-sort-tag : goal.returns-then-sort-tag
-returns-then-sort-tag c =
+pub returns-in-None : goal.returns-in-None
+returns-in-None c =
     let a = c.args in
-    closes a.tag a.opened.now a.depth a.sort a.index c.requires.0 c.requires.1 c.if-sort-eq1.false c.if-sort-tag.true c.minus.ensures
-
-pub returns : goal.returns
-returns c =
-    let a = c.args in
-    stays a.tag a.opened.now a.depth a.sort a.index c.requires.0 c.requires.1 c.if-sort-eq1.false c.if-sort-tag.false
+    let e : sort_code a.sort ≡ 0 = ap sort_code c.in-None.is in
+    closes a.tag a.opened.now a.depth (sort_code a.sort) a.index c.requires.0 c.requires.1 (λ h. omega (arith, e, h))
+    (ap₂ (λ (x y : Bool). x && y) (eq-eqb (sort_code a.sort) 0 e) (ap not c.if-not-tag.true)) c.minus.ensures

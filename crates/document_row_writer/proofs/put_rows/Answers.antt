@@ -1,15 +1,11 @@
 -- `document_row_writer::put_rows` meets its contract: nothing is read at first (`part_none` of PutLaws), each token is
 -- read after those before it (`putting_on`) or there are no rows (`putting_refused`), and the loop ends at the end of
 -- the text or at the limit (`putting_ended`).
-use Prim.Native.Nat.{ℕ, ◌-◌}
-use mathlib.Core.Path.{◌≡◌, refl, ap, ◌∙◌}
+use Prim.Native.Nat.{ℕ}
+use mathlib.Core.Path.{refl, ap, ◌∙◌}
 use native.Mathlib.Omega.{arith}
-use borrow.Author.Tests.{not-true, not-false}
 use lib.ListN.{length, length-drop, length-replicate}
-use Rattle.document_tokens.specs.Tokens.{declared_in}
-use Rattle.document_row_writer.specs.Putting.{Kept}
-use Rattle.document_row_writer.proofs.PutLaws.{goes_on, Putting, part_none, putting_room, putting_on, putting_refused, putting_ended}
-use borrow.Author.Rules.{rules}
+use Rattle.document_row_writer.proofs.PutLaws.{goes_on, part_none, putting_room, putting_on, putting_refused, putting_ended}
 use Rattle.document_row_writer.proofs.put_rows.Goals as goal
 
 pub loop-size-init : goal.loop-size-init
@@ -17,8 +13,8 @@ loop-size-init c =
     let p = c.requires in
     (record { part = part_none p.3; ceiling = omega arith }, record { stack = p.2; long = refl }, length-replicate {A = ℕ} 256 0)
 
-pub put_token-put-requires : goal.put_token-put-requires
-put_token-put-requires c =
+pub put_token-requires : goal.put_token-requires
+put_token-requires c =
     let p = c.requires in
     let i = c.loop-size.invariant in
     let (unread, few) = goes_on c.loop-size.size (length c.args.text.now) c.loop-size.here.count c.args.limit c.loop-size-test.true in (
@@ -32,33 +28,30 @@ put_token-put-requires c =
       omega (arith, p.6, putting_room i.0 p.5),
     )
 
-pub returns-then-not-put : goal.returns-then-not-put
-returns-then-not-put c =
+pub returns-in_err-put : goal.returns-in_err-put
+returns-in_err-put c =
     let i = c.loop-size.invariant in
-    let put = c.put_token-put.ensures in
-    (putting_refused i.0 c.after-t.ensures put.0 (not-true _ c.if-not-put.true) c.inexact.ensures, record { stack = put.1.stack; long = put.1.long ∙ i.1.long })
+    let put = c.in_err-put.ensures in
+    rw c.from_residual.ensures (putting_refused i.0 c.after-t.ensures put.0, record { stack = put.1.stack; long = put.1.long ∙ i.1.long })
 
 pub overflow_add-size : goal.overflow_add-size
 overflow_add-size c =
     let i = c.loop-size.invariant in
-    let put = c.put_token-put.ensures in
-    let part = put.0.reads (not-false _ c.if-not-put.false) in
+    let read = c.in_ok-put.ensures.0.is in
     let known = c.well_formed.1.1.1.1.1.0.0 in
-    omega (arith, known, part.within, i.0.part.within, ap length c.after-t.ensures, length-drop c.loop-size.size c.args.text.now)
+    omega (arith, known, read.part.within, i.0.part.within, ap length c.after-t.ensures, length-drop c.loop-size.size c.args.text.now)
 
 pub loop-size-smaller : goal.loop-size-smaller
 loop-size-smaller c =
-    let i = c.loop-size.invariant in
-    let put = c.put_token-put.ensures in
-    let exact = not-false _ c.if-not-put.false in
-    omega (arith, put.0.onward exact, (put.0.reads exact).within, ap length c.after-t.ensures, length-drop c.loop-size.size c.args.text.now)
+    let read = c.in_ok-put.ensures.0.is in
+    omega (arith, read.onward, read.part.within, ap length c.after-t.ensures, length-drop c.loop-size.size c.args.text.now)
 
 pub loop-size-preserved : goal.loop-size-preserved
 loop-size-preserved c =
     let i = c.loop-size.invariant in
-    let put = c.put_token-put.ensures in
+    let put = c.in_ok-put.ensures in
     let (unread, few) = goes_on c.loop-size.size (length c.args.text.now) c.loop-size.here.count c.args.limit c.loop-size-test.true in
-    (putting_on i.0 c.after-t.ensures put.0 (not-false _ c.if-not-put.false) few, record { stack = put.1.stack; long = put.1.long ∙ i.1.long }, put.2 ∙ i.2)
+    (putting_on i.0 c.after-t.ensures put.0 few, record { stack = put.1.stack; long = put.1.long ∙ i.1.long }, put.2 ∙ i.2)
 
 pub returns : goal.returns
 returns c =

@@ -1,12 +1,9 @@
-use Prim.Native.Nat.{ℕ, ◌-◌}
-use mathlib.Core.Path.{◌≡◌, refl, ap, ◌∙◌}
-use native.Mathlib.Omega.{arith}
-use borrow.Author.Tests.{not-true, not-false}
-use lib.ListN.{length, length-drop, length-replicate}
+use Prim.Native.Nat.{◌-◌}
+use mathlib.Core.Path.{◌≡◌}
+use lib.ListN.{length}
 use Rattle.document_tokens.specs.Tokens.{declared_in}
 use Rattle.document_row_writer.specs.Putting.{Kept}
-use Rattle.document_row_writer.proofs.PutLaws.{goes_on, Putting, part_none, putting_room, putting_on, putting_refused, putting_ended}
-use borrow.Author.Rules.{rules}
+use Rattle.document_row_writer.proofs.PutLaws.{Putting}
 use Rattle.document_row_writer.proofs.put_rows.Given as goal
 
 -- the first `size` bytes are read and their rows written; the arrays keep their lengths

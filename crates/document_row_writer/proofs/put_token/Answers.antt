@@ -1,38 +1,33 @@
 -- `document_row_writer::put_token` meets its contract: a token that is not exact is refused (`token_refused` of
 -- PutLaws), any other is read (`token_put`). Its numbers are small (`index_small`, `value_fits_lem`, `opens_more` of
 -- AfterLaws).
-use mathlib.Core.Path.{refl, sym, ◌∙◌}
+use mathlib.Core.Path.{refl, sym}
 use native.Mathlib.Omega.{arith}
-use borrow.Author.Tests.{not-true, not-false}
 use Rattle.codec.proofs.Writers.{laid_long}
 use Rattle.document_tokens.specs.Tokens.{declared_in}
-use Rattle.document_tokens.specs.Telling.{stack_of}
+use Rattle.document_tokens.specs.Telling.{sort_code, stack_of}
 use Rattle.document_tokens.proofs.TokenLaws.{token_fits}
 use Rattle.document_tokens.proofs.ChoiceLaws.{stack_size}
 use Rattle.document_row_writer.proofs.AfterLaws.{made_few, index_small, value_fits_lem, opens_more}
 use Rattle.document_row_writer.proofs.PutLaws.{token_refused, token_put}
-use borrow.Author.Rules.{rules}
 use Rattle.document_row_writer.proofs.put_token.Goals as goal
 
-pub returns-then-not-token : goal.returns-then-not-token
-returns-then-not-token c =
+pub returns-in_err-token : goal.returns-in_err-token
+returns-in_err-token c =
     let a = c.args in
     let p = c.requires in
-    let told = c.token_at-token.ensures in (
-      token_refused a.w (declared_in a.form.now) a.text.now a.progress.count a.opened.now a.progress.depth a.progress.tag p.5 told
-          (not-true _ c.if-not-token.true) c.inexact.ensures,
+    rw c.from_residual.ensures (
+      token_refused a.w (declared_in a.form.now) a.text.now a.progress.count a.opened.now a.progress.depth a.progress.tag p.5 c.in_err-token.ensures,
       record { stack = p.2; long = refl },
-      told.long,
+      c.in_err-token.ensures.long,
     )
 
 pub put_made-next-requires : goal.put_made-next-requires
 put_made-next-requires c =
     let a = c.args in
     let p = c.requires in
-    let exact = not-false _ c.if-not-token.false in
-    let told = c.token_at-token.ensures.told exact in
-    let is-exact = sym c.token_at-token.ensures.is ∙ exact in
-    let fits = token_fits (declared_in a.form.now) a.w (stack_of a.progress.depth a.opened.now) a.progress.tag a.text.now is-exact in (
+    let told = c.in_ok-token.ensures.told in
+    let fits = token_fits (declared_in a.form.now) a.w (stack_of a.progress.depth a.opened.now) a.progress.tag a.text.now (sym c.in_ok-token.ensures.is) in (
       p.0,
       p.7,
       omega (arith, p.3),
@@ -44,10 +39,8 @@ pub advance-requires : goal.advance-requires
 advance-requires c =
     let a = c.args in
     let p = c.requires in
-    let exact = not-false _ c.if-not-token.false in
-    let told = c.token_at-token.ensures.told exact in
-    let is-exact = sym c.token_at-token.ensures.is ∙ exact in
-    let fits = token_fits (declared_in a.form.now) a.w (stack_of a.progress.depth a.opened.now) a.progress.tag a.text.now is-exact in (
+    let told = c.in_ok-token.ensures.told in
+    let fits = token_fits (declared_in a.form.now) a.w (stack_of a.progress.depth a.opened.now) a.progress.tag a.text.now (sym c.in_ok-token.ensures.is) in (
       p.2,
       p.3,
       index_small a.form.now fits told p.1.definitions_few p.1.attributes_few,
@@ -56,19 +49,15 @@ advance-requires c =
 
 pub overflow_add-progress : goal.overflow_add-progress
 overflow_add-progress c =
-    omega (arith, c.made.ensures, made_few c.token_at-token.result.sort, c.requires.4)
+    omega (arith, c.made.ensures, made_few (sort_code c.in_ok-token.token.sort), c.requires.4)
 
 pub returns : goal.returns
 returns c =
     let a = c.args in
     let p = c.requires in
-    let exact = not-false _ c.if-not-token.false in
-    let told = c.token_at-token.ensures.told exact in
-    let is-exact = sym c.token_at-token.ensures.is ∙ exact in
-    let fits = token_fits (declared_in a.form.now) a.w (stack_of a.progress.depth a.opened.now) a.progress.tag a.text.now is-exact in
     let adv = c.advance.ensures in (
-      token_put a.w (declared_in a.form.now) a.text.now a.progress.count a.opened.now a.progress.depth a.progress.tag p.5 is-exact told
-          c.first-read.ensures c.put_made-next.ensures adv refl (omega (arith, c.made.ensures)) refl,
+      token_put a.w (declared_in a.form.now) a.text.now a.progress.count a.opened.now a.progress.depth a.progress.tag p.5 (sym c.in_ok-token.ensures.is)
+          c.in_ok-token.ensures.told c.first-read.ensures c.put_made-next.ensures adv (omega (arith, c.made.ensures)) c.tag_after.ensures,
       record { stack = adv.long; long = laid_long c.put_made-next.ensures.laid },
-      c.token_at-token.ensures.long,
+      c.in_ok-token.ensures.long,
     )

@@ -1,36 +1,30 @@
--- `document_tokens::attribute_place` meets its contract: the attribute that is looked for stands at i (`placing_hit` of
--- FormLaws), any other is passed (`placing_on`), and past the last nothing is left (`placing_end`).
-use mathlib.Core.Path.{ap, ◌∙◌}
-use mathlib.Core.Bool.{◌&&◌}
-use mathlib.Core.List.{List}
-use Prim.Native.Nat.{ℕ, ◌-◌, ◌<◌}
+-- `document_tokens::attribute_place` meets its contract: the first attribute of that owner and name is the one whose
+-- place is said (`attribute_found` of FormLaws).
+use mathlib.Core.Bool.{true, false, ◌&&◌}
+use mathlib.Core.Path.{◌≡◌}
 use native.Mathlib.Omega.{arith}
+use Prim.Native.Nat.{◌<◌}
+use borrow.Author.Tests.{tests}
+use borrow.Author.Rules.{rules}
 use lib.Dec.{eqb}
+use Rattle.std.proofs.lemmas.Iterator.{first_from_Range, serves_from_Range}
 use Rattle.rules.specs.Bytes.{same}
 use Rattle.rules.specs.Decode.{read_attribute}
-use Rattle.document_tokens.proofs.FormLaws.{Placing, placing_start, placing_hit, placing_on, placing_end}
-use borrow.Author.Rules.{rules}
+use Rattle.printing_parts.specs.Parts.{attribute_part}
+use Rattle.document_tokens.proofs.FormLaws.{attribute_found}
 use Rattle.document_tokens.proofs.attribute_place.Goals as goal
 
-pub loop-i-init : goal.loop-i-init
-loop-i-init c = (placing_start _ _ _ _ c.attribute_count-count.ensures.value, c.attribute_count-count.ensures.small)
-
-pub attribute-requires : goal.attribute-requires
-attribute-requires c =
-    omega (arith, c.loop-i.invariant.1)
-
-pub returns-then-is_attribute : goal.returns-then-is_attribute
-returns-then-is_attribute c =
-    let e = c.is_attribute.ensures
-    ∙ ap (λ (l : List ℕ). eqb c.args.o (read_attribute l).owner && same c.args.name.now (read_attribute l).name) c.attribute.ensures in
-    placing_hit c.loop-i.invariant.0 (omega arith) e c.if-is_attribute.true
-
-pub loop-i-preserved : goal.loop-i-preserved
-loop-i-preserved c =
-    let e = c.is_attribute.ensures
-    ∙ ap (λ (l : List ℕ). eqb c.args.o (read_attribute l).owner && same c.args.name.now (read_attribute l).name) c.attribute.ensures in
-    (placing_on c.loop-i.invariant.0 (omega arith) e c.if-is_attribute.false, c.loop-i.invariant.1)
+pub find-requires : goal.find-requires
+find-requires c =
+    let few : c.attribute_count-count.result < 4294967296 = c.attribute_count-count.ensures.small in
+    record { can = tt; finite = tt; callable = serves_from_Range (λ x q k. search (rules, tests)) (λ x low high y e l p n q w f u v m. omega (arith, e, high, few)) }
 
 pub returns : goal.returns
 returns c =
-    placing_end c.loop-i.invariant.0 (omega arith)
+    let bs = c.args.form.now in
+    let name = c.args.name.now in
+    attribute_found bs c.args.o name c.attribute_count-count.ensures.value _
+    (first_from_Range _ _ _ _
+    (λ i. (eqb c.args.o (read_attribute (attribute_part bs i)).owner && same name (read_attribute (attribute_part bs i)).name) ≡ true)
+    (λ i. (eqb c.args.o (read_attribute (attribute_part bs i)).owner && same name (read_attribute (attribute_part bs i)).name) ≡ false)
+    c.find.ensures.ran (λ x q k. search (rules, tests)) (λ x q k. search (rules, tests)))

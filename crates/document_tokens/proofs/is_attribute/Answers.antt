@@ -3,7 +3,6 @@ use mathlib.Core.Path.{ap, ap₂, ◌∙◌}
 use mathlib.Core.Bool.{Bool, ◌&&◌}
 use lib.Dec.{eqb}
 use Rattle.rules.specs.Bytes.{same}
-use borrow.Author.Rules.{rules}
 use Rattle.document_tokens.proofs.is_attribute.Goals as goal
 
 pub returns : goal.returns

@@ -6,7 +6,6 @@ use Prim.Native.Nat.{ℕ}
 use native.Mathlib.Omega.{arith}
 use Rattle.rules.specs.Decode.{read_definition}
 use Rattle.document_tokens.proofs.FormLaws.{kind_there, kind_none}
-use borrow.Author.Rules.{rules}
 use Rattle.document_tokens.proofs.kind_of.Goals as goal
 
 pub returns-then-definition_count-o : goal.returns-then-definition_count-o

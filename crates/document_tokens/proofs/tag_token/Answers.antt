@@ -4,7 +4,6 @@ use mathlib.Core.Path.{refl}
 use Rattle.document_tokens.specs.Tokens.{declared_in}
 use Rattle.document_tokens.proofs.TellLaws.{tells_as, tells_beside}
 use Rattle.document_tokens.proofs.ChoiceLaws.{tag_attribute, tag_text, tag_ends}
-use borrow.Author.Rules.{rules}
 use Rattle.document_tokens.proofs.tag_token.Goals as goal
 
 pub returns-then-byte-eq32 : goal.returns-then-byte-eq32
@@ -22,4 +21,4 @@ pub returns : goal.returns
 returns c =
     let a = c.args in
     tells_as (tag_ends (declared_in a.form.now) a.w a.o a.text.now c.byte.ensures c.if-byte-eq32.false c.kind_of.ensures c.if-kind_of-eq1.false)
-    (tells_beside a.value.now refl c.start_end_token.ensures)
+    (tells_beside _ a.value.now refl c.start_end_token.ensures)

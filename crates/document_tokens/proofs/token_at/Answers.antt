@@ -8,7 +8,6 @@ use Rattle.document_tokens.specs.Tokens.{declared_in, end_token, token_at}
 use Rattle.document_tokens.specs.Telling.{stack_of}
 use Rattle.document_tokens.proofs.TellLaws.{tells_as, tells_none, tells_beside}
 use Rattle.document_tokens.proofs.ChoiceLaws.{stack_size, stack_top, stack_none, begins_element, begins_deep, goes_nowhere, goes_on, goes_to_end}
-use borrow.Author.Rules.{rules}
 use Rattle.document_tokens.proofs.token_at.Goals as goal
 
 pub returns-then-depth-lt255 : goal.returns-then-depth-lt255
@@ -16,13 +15,13 @@ returns-then-depth-lt255 c =
     let a = c.args in
     let stack = stack_of a.depth a.opened.now in
     tells_as (begins_element (declared_in a.form.now) a.w stack a.text.now c.starts_with-ends.ensures a.tag c.if-tag-ends.true
-    (omega (arith, stack_size a.depth a.opened.now))) (tells_beside a.value.now refl c.element_token.ensures)
+    (omega (arith, stack_size a.depth a.opened.now))) (tells_beside _ a.value.now refl c.element_token.ensures)
 
 pub returns-then-tag-ends : goal.returns-then-tag-ends
 returns-then-tag-ends c =
     let a = c.args in
     let stack = stack_of a.depth a.opened.now in
-    tells_none (token_at (declared_in a.form.now) a.w stack a.tag a.text.now) c.no_token.ensures
+    tells_none (token_at (declared_in a.form.now) a.w stack a.tag a.text.now)
     (ap (λ t. t.exact) (begins_deep (declared_in a.form.now) a.w stack a.text.now c.starts_with-ends.ensures a.tag c.if-tag-ends.true
     (omega (arith, stack_size a.depth a.opened.now)))) refl
 
@@ -30,7 +29,7 @@ pub returns-then-depth-eq0 : goal.returns-then-depth-eq0
 returns-then-depth-eq0 c =
     let a = c.args in
     let stack = stack_of a.depth a.opened.now in
-    tells_none (token_at (declared_in a.form.now) a.w stack a.tag a.text.now) c.no_token-then-depth-eq0.ensures
+    tells_none (token_at (declared_in a.form.now) a.w stack a.tag a.text.now)
     (ap (λ t. t.exact) (goes_nowhere (declared_in a.form.now) a.w stack a.text.now c.starts_with-ends.ensures a.tag c.if-tag-ends.false
     (stack_none a.depth a.opened.now c.if-depth-eq0.true))) refl
 
@@ -49,4 +48,4 @@ returns c =
     (goes_to_end (declared_in a.form.now) a.w stack a.text.now c.starts_with-ends.ensures a.tag c.if-tag-ends.false c.if-tag.false
     (stack_top a.depth a.opened.now c.if-depth-eq0.false c.wide-o.ensures)
     ∙ ap (λ (k : ℕ). end_token (declared_in a.form.now) c.wide-o.result k a.text.now) (stack_size (a.depth - 1) a.opened.now))
-    (tells_beside a.value.now refl c.end_token.ensures)
+    (tells_beside _ a.value.now refl c.end_token.ensures)

@@ -4,6 +4,7 @@ use native.Mathlib.Omega.{arith}
 use mathlib.Core.Path.{◌≡◌, refl, sym, ap, ap₂, ◌∙◌, subst}
 use mathlib.Core.Bool.{Bool, true, false, not, ◌&&◌, ◌||◌, not-not}
 use mathlib.Core.List.{List, [], ◌∷◌, ◌++◌, map, Memᴰ}
+use borrow.Author.Tests.{ne_eqb}
 use lib.Dec.{eqb}
 use lib.ListN.{length, get_or}
 use Rattle.rules.specs.Bytes.{Bytes, same, bytes, all}
@@ -57,7 +58,7 @@ other_first t p i ep {w} e {b} eb =
   where
     by : (sort index : ℕ) → not (is_this i (what_of sort index)) ≡ elim (eqb sort 0) [ true ↦ not (eqb i index) | false ↦ true ]
     by zero index = refl
-    by (suc n) index = refl
+    by (suc n) index = sym (ap (λ (b : Bool). elim b [ true ↦ not (eqb i index) | false ↦ true ]) (ne_eqb (suc n) 0 (λ q. omega arith)))
 
 module _ (bs : Bytes) (w : Reads bs) where
   pub size : definition_count bs ≡ length (form_in bs)

@@ -6,7 +6,7 @@ use mathlib.Core.Bool.{Bool, true, false, not, ◌&&◌, ◌||◌, not-not}
 use mathlib.Core.List.{List, [], ◌∷◌, ◌++◌, map, Memᴰ}
 use borrow.Author.Tests.{ne_eqb}
 use lib.Dec.{eqb}
-use lib.ListN.{length, get_or}
+use lib.ListN.{length, drop, get_or}
 use Rattle.rules.specs.Bytes.{Bytes, same, bytes, all}
 use Rattle.rules.specs.Model.{names, member}
 use Rattle.rules.specs.Store.{members}
@@ -25,7 +25,7 @@ use Rattle.model.proofs.ChunkLaws.{Front, front}
 use Rattle.circle_check.specs.Members.{elements_of, members_in}
 use Rattle.circle_check.specs.Deep.{has_height, first_passes}
 use Rattle.circle_check.specs.Avoiding.{Avoids}
-use Rattle.circle_check.proofs.MemberLaws.{all_more}
+use Rattle.circle_check.proofs.MemberLaws.{elements_more}
 use Rattle.circle_check.proofs.CircleLaws.{members_named}
 use Rattle.form_index.specs.Reading.{model_part, by_index}
 use Rattle.store_check.proofs.IndexLaws.{names_of, lookup_at, name_of_lem}
@@ -42,9 +42,14 @@ use Rattle.model_reach.proofs.ReachLaws.{avoided}
 pub first_and_rest : (p : ℕ → Bool) (t x s : Bytes) → t ≡ x ++ s → length x ≡ particle_size → all p (elements_of t) ≡ (first_passes p x && all p (elements_of s))
 first_and_rest p t x s e h =
     let w : Front t x s = front t x s e h in
-    all_more p t w.long
+    ap (all p) (elements_more t w.long) ∙ by (eqb (read_particle t).row.sort 0)
     ∙ ap₂ (λ (b c : Bool). b && c) (ap (λ (q : Deep FlatParticle). elim (eqb q.row.sort 0) [ true ↦ p q.row.index | false ↦ true ]) (sym w.reads))
     (ap (λ (z : Bytes). all p (elements_of z)) (sym w.rest))
+  where
+    by : (b : Bool) → all p (elim b [ true ↦ (read_particle t).row.index ∷ elements_of (drop particle_size t) | false ↦ elements_of (drop particle_size t) ])
+        ≡ (elim b [ true ↦ p (read_particle t).row.index | false ↦ true ] && all p (elements_of (drop particle_size t)))
+    by true = refl
+    by false = refl
 
 abbrev is_this : ℕ → What → Bool
 is_this i (Element j) = eqb i j

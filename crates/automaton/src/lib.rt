@@ -149,17 +149,16 @@ pub fn nexts_from<N: Names>(
     ensures { (y : ℕ) → N.Tells names y → told N.has result y ≡ facts numbers kind (members_from d s.now) x y }
 {
     let mut f = no_members(names, kind);
-    let mut t = s;
-    // no `chunks_exact`: a group's members stand after its particle, in the rest of the slice
-    while t.len() >= PARTICLE_SIZE {
-        let depth = layout::particle_depth(t) as usize;
+    for (i, particle) in s.chunks_exact(PARTICLE_SIZE).enumerate() {
+        let depth = layout::particle_depth(particle) as usize;
         if depth < d {
             return f;
         }
         if depth == d {
-            f = joined(names, kind, f, first_nexts(names, t, d, x));
+            // its members stand after it
+            let from = &s[PARTICLE_SIZE * i..];
+            f = joined(names, kind, f, first_nexts(names, from, d, x));
         }
-        t = &t[PARTICLE_SIZE..];
     }
     f
 }

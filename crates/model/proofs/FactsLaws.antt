@@ -5,7 +5,7 @@ use mathlib.Core.List.{List, [], ◌∷◌}
 use Prim.Native.Nat.{ℕ, zero, suc, ◌+◌, ◌-◌, ◌<◌, ◌≤◌}
 use native.Mathlib.Omega.{arith}
 use native.Mathlib.Numerals.{add-one}
-use lib.ListN.{length, take, drop, length-take, length-drop}
+use lib.ListN.{length, take, drop}
 use Rattle.rules.specs.declared.Facts.{Facts}
 use Rattle.rules.specs.declared.Quantifier.{Quantifier}
 use Rattle.rules.specs.declared.Quantifier.TheVariants.{None, Qmark, Star, Plus}
@@ -15,13 +15,15 @@ use Rattle.rules.specs.Bytes.{Bytes, numbers}
 use Rattle.rules.specs.Model.{Members, done, el, group, Equality, skips, both, nothing}
 use Rattle.rules.specs.Decode.{read_particle}
 use Rattle.rules.specs.Automaton.{single, empty, join, quantify_facts, facts, continues, accepts}
-use Rattle.rules.specs.Layout.{particle_size}
+use Rattle.rules.specs.Preorder.{Deep}
+use Rattle.rules.specs.Layout.{particle_size, FlatParticle}
 use Rattle.codec.proofs.Writers.{tail_seen}
 use Rattle.model.specs.declared.What.TheVariants.{Element, Group}
 use Rattle.model.specs.declared.Particle.{Particle}
 use Rattle.model.specs.Particle.{what_of, particle_of, kind_in, particle_facts, first_facts}
 use Rattle.model.specs.Members.{index_member, members_from}
 use Rattle.model.specs.Steps.{steps, finishes, runs}
+use Rattle.model.proofs.ChunkLaws.{Front}
 use Rattle.model.proofs.MembersLaws.{members_few, members_deeper, members_stop, members_here}
 
 -- ---- parts side by side: nothing beside a part, and three parts
@@ -128,34 +130,33 @@ module _ (d : ℕ) (k : GroupKind) (x y : ℕ) (s : Bytes) where
 -- ---- the loop over members beside one another: f are the facts of those
 -- before t, so that with those from t on they are the whole's
 pub record Joining (k : GroupKind) (d x y : ℕ) (s t : Bytes) (f : Facts) : Type 0 where
-  pub short : length t ≤ length s
   pub is : join k f (facts numbers k (members_from d t) x y) ≡ facts numbers k (members_from d s) x y
 
 module _ (k : GroupKind) (d x y : ℕ) (s : Bytes) where
   pub joining_starts : (f : Facts) → f ≡ empty k → Joining k d x y s s f
-  joining_starts f e = record { short = omega arith; is = rw e (join_left k (facts numbers k (members_from d s) x y)) }
+  joining_starts f e = record { is = rw e (join_left k (facts numbers k (members_from d s) x y)) }
 
   module _ (t : Bytes) (f : Facts) (j : Joining k d x y s t f) where
     pub joining_few : length t < particle_size → f ≡ facts numbers k (members_from d s) x y
     joining_few h = sym (join_right k f) ∙ sym (ap (join k f) (facts_few d k x y t h)) ∙ j.is
 
-    shorter : length (take (length t - particle_size) (drop particle_size t)) ≤ length s
-    shorter = omega (arith, j.short, length-take (length t - particle_size) (drop particle_size t), length-drop particle_size t)
+    -- p is the first particle of t, and rest is what follows it
+    module _ {p rest : Bytes} (w : Front t p rest) (e : ℕ) (g : e ≡ (read_particle p).depth) where
+      deep : e ≡ (read_particle t).depth
+      deep = g ∙ ap (λ (q : Deep FlatParticle). q.depth) w.reads
 
-    module _ (e : ℕ) (h : particle_size ≤ length t) (g : e ≡ (read_particle t).depth) where
       pub joining_stop : e < d → f ≡ facts numbers k (members_from d s) x y
-      joining_stop l = sym (join_right k f) ∙ sym (ap (join k f) (facts_stop d k x y t h (omega arith))) ∙ j.is
+      joining_stop l = sym (join_right k f) ∙ sym (ap (join k f) (facts_stop d k x y t w.long (omega (arith, deep)))) ∙ j.is
 
-      pub joining_deeper : d < e → Joining k d x y s (take (length t - particle_size) (drop particle_size t)) f
-      joining_deeper l = record { short = shorter; is = rw (tail_seen t particle_size, ← members_deeper d t h (omega arith)) j.is }
+      pub joining_deeper : d < e → Joining k d x y s rest f
+      joining_deeper l = record { is = rw (w.rest, ← members_deeper d t w.long (omega (arith, deep))) j.is }
 
-      pub joining_on : e ≤ d → d ≤ e → (here r : Facts) → here ≡ first_facts d t x y → r ≡ join k f here → Joining k d x y s (take (length t - particle_size) (drop particle_size t)) r
-      joining_on l m here r eh er =
+      pub joining_on : e ≡ d → (here r : Facts) → here ≡ first_facts d t x y → r ≡ join k f here → Joining k d x y s rest r
+      joining_on m here r eh er =
           record {
-            short = shorter;
             is =
-                rw (tail_seen t particle_size, er, eh) (join_assoc k f (first_facts d t x y) (facts numbers k (members_from d (drop particle_size t)) x y))
-                ∙ sym (ap (join k f) (facts_here d k x y t h (omega arith))) ∙ j.is;
+                rw (w.rest, er, eh) (join_assoc k f (first_facts d t x y) (facts numbers k (members_from d (drop particle_size t)) x y))
+                ∙ sym (ap (join k f) (facts_here d k x y t w.long (omega (arith, deep)))) ∙ j.is;
           }
 
 -- ---- the automaton's steps

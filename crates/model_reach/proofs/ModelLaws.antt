@@ -4,8 +4,9 @@ use native.Mathlib.Omega.{arith}
 use mathlib.Core.Path.{◌≡◌, refl, sym, ap, ap₂, ◌∙◌, subst}
 use mathlib.Core.Bool.{Bool, true, false, not, ◌&&◌, ◌||◌, not-not}
 use mathlib.Core.List.{List, [], ◌∷◌, ◌++◌, map, Memᴰ}
+use borrow.Author.Tests.{ne_eqb}
 use lib.Dec.{eqb}
-use lib.ListN.{length, get_or}
+use lib.ListN.{length, drop, get_or}
 use Rattle.rules.specs.Bytes.{Bytes, same, bytes, all}
 use Rattle.rules.specs.Model.{names, member}
 use Rattle.rules.specs.Store.{members}
@@ -24,7 +25,7 @@ use Rattle.model.proofs.ChunkLaws.{Front, front}
 use Rattle.circle_check.specs.Members.{elements_of, members_in}
 use Rattle.circle_check.specs.Deep.{has_height, first_passes}
 use Rattle.circle_check.specs.Avoiding.{Avoids}
-use Rattle.circle_check.proofs.MemberLaws.{all_more}
+use Rattle.circle_check.proofs.MemberLaws.{elements_more}
 use Rattle.circle_check.proofs.CircleLaws.{members_named}
 use Rattle.form_index.specs.Reading.{model_part, by_index}
 use Rattle.store_check.proofs.IndexLaws.{names_of, lookup_at, name_of_lem}
@@ -41,9 +42,14 @@ use Rattle.model_reach.proofs.ReachLaws.{avoided}
 pub first_and_rest : (p : ℕ → Bool) (t x s : Bytes) → t ≡ x ++ s → length x ≡ particle_size → all p (elements_of t) ≡ (first_passes p x && all p (elements_of s))
 first_and_rest p t x s e h =
     let w : Front t x s = front t x s e h in
-    all_more p t w.long
+    ap (all p) (elements_more t w.long) ∙ by (eqb (read_particle t).row.sort 0)
     ∙ ap₂ (λ (b c : Bool). b && c) (ap (λ (q : Deep FlatParticle). elim (eqb q.row.sort 0) [ true ↦ p q.row.index | false ↦ true ]) (sym w.reads))
     (ap (λ (z : Bytes). all p (elements_of z)) (sym w.rest))
+  where
+    by : (b : Bool) → all p (elim b [ true ↦ (read_particle t).row.index ∷ elements_of (drop particle_size t) | false ↦ elements_of (drop particle_size t) ])
+        ≡ (elim b [ true ↦ p (read_particle t).row.index | false ↦ true ] && all p (elements_of (drop particle_size t)))
+    by true = refl
+    by false = refl
 
 abbrev is_this : ℕ → What → Bool
 is_this i (Element j) = eqb i j
@@ -57,7 +63,7 @@ other_first t p i ep {w} e {b} eb =
   where
     by : (sort index : ℕ) → not (is_this i (what_of sort index)) ≡ elim (eqb sort 0) [ true ↦ not (eqb i index) | false ↦ true ]
     by zero index = refl
-    by (suc n) index = refl
+    by (suc n) index = sym (ap (λ (b : Bool). elim b [ true ↦ not (eqb i index) | false ↦ true ]) (ne_eqb (suc n) 0 (λ q. omega arith)))
 
 module _ (bs : Bytes) (w : Reads bs) where
   pub size : definition_count bs ≡ length (form_in bs)

@@ -1,5 +1,7 @@
 -- The loop that marks the elements among particles.
 use Prim.Native.Nat.{ℕ, zero, suc, ◌*◌, ◌≤◌, ◌<◌}
+use native.Mathlib.Omega.{arith}
+use borrow.Author.Tests.{ne_eqb}
 use mathlib.Core.Path.{◌≡◌, refl, sym, ap, ap₂, ◌∙◌}
 use mathlib.Core.Bool.{Bool, true, false}
 use mathlib.Core.List.{List, ◌∷◌, ◌++◌}
@@ -29,7 +31,7 @@ module _ (v : ℕ) (t m : Bytes) {p : Particle} (ep : p ≡ particle_of (read_pa
 
   by_sort : (sort index : ℕ) → by_what (what_of sort index) ≡ elim (eqb sort 0) [ true ↦ set m index v | false ↦ m ]
   by_sort zero index = refl
-  by_sort (suc n) index = refl
+  by_sort (suc n) index = sym (ap (λ (b : Bool). elim b [ true ↦ set m index v | false ↦ m ]) (ne_eqb (suc n) 0 (λ q. omega arith)))
 
   pub first_marks : {w : What} → p.what ≡ w → by_what w ≡ marked_first v t m
   unfolding particle_of

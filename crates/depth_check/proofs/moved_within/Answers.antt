@@ -31,10 +31,11 @@ pub loop-particle-preserved : goal.loop-particle-preserved
 loop-particle-preserved c =
     let loop = c.loop-particle.invariant in
     let step = c.in-Some.ensures.steps in
-    let first = front _ _ _ step.1.0 (step.1.1 ∙ loop.0) in
-    (step.0 ∙ loop.0,
+    let first = front _ _ _ step.1.0 (step.1.1 ∙ loop.0) in (
+      step.0 ∙ loop.0,
       deep_step loop.1 first _ (ap (ltb c.args.d) (sym c.particle_depth-depth.ensures)) c.if-m-inner.false (omega (arith, c.particle_depth-depth.ensures))
-      c.left-m.ensures)
+          c.left-m.ensures,
+    )
 
 pub returns : goal.returns
 returns c =

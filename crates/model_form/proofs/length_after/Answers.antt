@@ -9,13 +9,9 @@ pub returns-in-Insert : goal.returns-in-Insert
 returns-in-Insert c =
     omega (arith, length_case c.args.n c.in-Insert.is)
 
-pub returns-then-n-eq0 : goal.returns-then-n-eq0
-returns-then-n-eq0 c =
-    omega (arith, length_case c.args.n c.in-Remove.is)
-
-pub returns-else-n-eq0 : goal.returns-else-n-eq0
-returns-else-n-eq0 c =
-    omega (arith, length_case c.args.n c.in-Remove.is)
+pub returns-in-Remove : goal.returns-in-Remove
+returns-in-Remove c =
+    omega (arith, length_case c.args.n c.in-Remove.is, c.saturating_sub.ensures)
 
 pub returns-in-Quantify : goal.returns-in-Quantify
 returns-in-Quantify c =
@@ -25,10 +21,6 @@ pub returns-in-Convert : goal.returns-in-Convert
 returns-in-Convert c =
     omega (arith, length_case c.args.n c.in-Convert.is)
 
-pub returns-then-n-eq0-2 : goal.returns-then-n-eq0-2
-returns-then-n-eq0-2 c =
-    omega (arith, length_case c.args.n c.in-Flatten.is)
-
-pub returns-else-n-eq0-2 : goal.returns-else-n-eq0-2
-returns-else-n-eq0-2 c =
-    omega (arith, length_case c.args.n c.in-Flatten.is)
+pub returns-in-Flatten : goal.returns-in-Flatten
+returns-in-Flatten c =
+    omega (arith, length_case c.args.n c.in-Flatten.is, c.saturating_sub-in-Flatten.ensures)

@@ -30,10 +30,11 @@ pub loop-particle-preserved : goal.loop-particle-preserved
 loop-particle-preserved c =
     let i = c.args.i in
     let loop = c.loop-particle.invariant in
-    let step = c.in-Some.ensures.steps in
-    (step.0 ∙ loop.0,
+    let step = c.in-Some.ensures.steps in (
+      step.0 ∙ loop.0,
       loop.1 ∙ first_and_rest (λ j. not (eqb i j)) _ _ _ step.1.0 (step.1.1 ∙ loop.0)
-      ∙ ap (λ (b : Bool). b && all (λ j. not (eqb i j)) (elements_of c.next.new.self.rest.now)) (sym c.is_element.ensures ∙ ap not c.if-is_element.false))
+          ∙ ap (λ (b : Bool). b && all (λ j. not (eqb i j)) (elements_of c.next.new.self.rest.now)) (sym c.is_element.ensures ∙ ap not c.if-is_element.false),
+    )
 
 pub returns : goal.returns
 returns c =

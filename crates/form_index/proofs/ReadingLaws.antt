@@ -7,21 +7,14 @@ use mathlib.Core.Bool.{Bool, ◌&&◌}
 use lib.Dec.{eqb}
 use lib.ListN.{take, drop}
 use Rattle.rules.specs.Bytes.{Bytes}
-use Rattle.rules.specs.Layout.{definition_size, attribute_size}
-use Rattle.rules.specs.Decode.{sort_of, read_definition, read_attribute}
-use Rattle.rules.specs.Conforming.{must_be_present, allows}
+use Rattle.rules.specs.Layout.{attribute_size}
+use Rattle.rules.specs.Decode.{sort_of, read_attribute}
+use Rattle.rules.specs.Conforming.{must_be_present}
 use Rattle.layout.specs.Bodies.{record_at}
 use Rattle.form_index.specs.Reading.{definition_in, attribute_in, particles_before, model_part}
 use Rattle.rules.specs.Layout.{particle_size}
 
 -- ---- definitions
-module _ (record' defs : Bytes) (i : ℕ) (e : record' ≡ record_at definition_size i defs) where
-  pub kind_read : (k : ℕ) → k ≡ (read_definition record').kind → k ≡ (definition_in defs i).kind
-  kind_read k h = h ∙ ap (λ (s : Bytes). (read_definition s).kind) e
-
-  pub particles_read_lem : (k : ℕ) → k ≡ (read_definition record').particles → k ≡ (definition_in defs i).particles
-  particles_read_lem k h = h ∙ ap (λ (s : Bytes). (read_definition s).particles) e
-
 pub before_more : (defs : Bytes) (j sum k : ℕ) → sum ≡ particles_before defs j → k ≡ (definition_in defs j).particles → sum + k ≡ particles_before defs (j + 1)
 unfolding particles_before
 before_more defs j sum k e h = rw (add-one j, e, h)
@@ -31,17 +24,13 @@ unfolding model_part
 model_read defs parts i a b e h = rw (e, h)
 
 -- the invariant of the loop over the definitions before
-pub record Summed (defs : Bytes) (i sum j : ℕ) : Type 0 where
+pub record Summed (defs : Bytes) (sum j : ℕ) : Type 0 where
   pub is : sum ≡ particles_before defs j
-  pub low : j ≤ i
   pub small : sum ≤ 4294967296 * j
 
-pub summed_none : (defs : Bytes) (i : ℕ) → Summed defs i 0 0
+pub summed_none : (defs : Bytes) → Summed defs 0 0
 unfolding particles_before
-summed_none defs i = record { is = refl; low = omega arith; small = omega arith }
-
-pub summed_ends : (defs : Bytes) (i sum j : ℕ) → Summed defs i sum j → i ≤ j → i ≤ 256 → (sum ≡ particles_before defs i) × (sum ≤ 4294967296 * 256)
-summed_ends defs i sum j s h l = let e : j ≡ i = omega (arith, s.low) in (s.is ∙ ap (particles_before defs) e, omega (arith, s.small, s.low))
+summed_none defs = record { is = refl; small = omega arith }
 
 -- ---- attributes
 -- record' is attribute j
@@ -55,9 +44,3 @@ module _ (w : ℕ) (record' attrs : Bytes) (j : ℕ) (e : record' ≡ record_at 
   pub needs_read : (version i o s : ℕ) (b : Bool) → o ≡ (read_attribute record').owner → s ≡ (read_attribute record').sort → b ≡ must_be_present version (sort_of s)
       → (eqb o i && b) ≡ (eqb (attribute_in w attrs j).owner i && must_be_present version (sort_of (attribute_in w attrs j).sort))
   needs_read version i o s b p q r = rw (owner_read o p, r, sort_read s q)
-
-  pub value_allowed : (s : ℕ) (fill v : Bytes) (b : Bool) → s ≡ (read_attribute record').sort → fill ≡ (read_attribute record').value → b ≡ allows (sort_of s) fill v
-      → b ≡ allows (sort_of (attribute_in w attrs j).sort) (attribute_in w attrs j).value v
-  value_allowed s fill v b q t r =
-      let x : fill ≡ (attribute_in w attrs j).value = t ∙ ap (λ (u : Bytes). (read_attribute u).value) e in
-      r ∙ rw (sort_read s q, x)

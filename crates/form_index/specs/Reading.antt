@@ -4,7 +4,7 @@ use Rattle.rules.specs.Bytes.{Bytes}
 use Rattle.rules.specs.Layout.{definition_size, particle_size, attribute_size, FlatDefinition, FlatAttribute}
 use Rattle.rules.specs.Decode.{number_at, definition_count, attribute_count, read_definition, read_attribute, sort_of}
 use Rattle.rules.specs.Conforming.{must_be_present, allows}
-use Rattle.layout.specs.declared.Shape.{Shape}
+use Rattle.layout.specs.declared.Form.{Form}
 use Rattle.layout.specs.Fields.{version_at}
 use Rattle.layout.specs.Bodies.{record_at, width_of, definitions_in, particles_in, attributes_in}
 use Rattle.model.specs.Members.{all_members}
@@ -38,9 +38,9 @@ index_form version w n defs parts attrs a =
       allows = λ j v. allows (sort_of (attribute_in w attrs j).sort) (attribute_in w attrs j).value v;
     }
 
--- bodies that a shape cuts out
-abbrev pub form_by : Shape → Bytes → Bytes → Bytes → IndexForm
-form_by s defs parts attrs = index_form s.version s.width s.definitions defs parts attrs s.attributes
+-- the form that is lent
+abbrev pub index_form_of : Form → IndexForm
+index_form_of f = index_form f.version f.width f.definition_count f.definitions.now f.particles.now f.attributes.now f.attribute_count
 
 -- the form that a byte string says
 abbrev pub by_index : Bytes → IndexForm

@@ -1,12 +1,12 @@
 -- Where a number stands to another, and a test of all numbers from a on below b.
-use Prim.Native.Nat.{ℕ, zero, suc, ◌-◌, ◌≤◌, ◌<◌}
+use Prim.Native.Nat.{ℕ, zero, suc, ◌+◌, ◌-◌, ◌≤◌, ◌<◌}
 use native.Mathlib.Omega.{arith}
-use native.Mathlib.Numerals.{sub-one}
+use native.Mathlib.Numerals.{add-one, sub-one}
 use native.Mathlib.Nat.{not-suc-le-zero}
-use mathlib.Core.Path.{◌≡◌, refl, sym, ap₂, ◌∙◌}
-use mathlib.Core.Bool.{Bool, true, false, ◌&&◌}
+use mathlib.Core.Path.{◌≡◌, refl, sym, ap₂, subst, ◌∙◌}
+use mathlib.Core.Bool.{Bool, true, false, ◌&&◌, false≢true}
 use lib.Dec.{ltb, leb}
-use borrow.Author.Tests.{le-leb, lt-leb, leb-true, ltb-true, ltb-false}
+use borrow.Author.Tests.{le-leb, lt-leb, leb-true, leb-false, ltb-true, ltb-false}
 use Rattle.rules.proofs.Words.{and_both, and_split}
 use Rattle.form_table.specs.Every.{every}
 
@@ -64,18 +64,26 @@ every_same p q (suc n) a f = by (leb a n) (every_same p q n a (λ k h. f k (omeg
     by true e = ap₂ (λ (i j : Bool). i && j) (f n (omega arith)) e
     by false e = refl
 
--- ---- a loop over the numbers from the back
-pub record Left (p : ℕ → Bool) (a b k : ℕ) : Type 0 where
-  pub is : every p b a ≡ every p k a
-  pub low : k ≤ b
+-- ---- a loop over the numbers from a on
+module _ (p : ℕ → Bool) (a k : ℕ) where
+  pub every_more : every p k a ≡ true → p k ≡ true → every p (k + 1) a ≡ true
+  unfolding every
+  every_more e h = rw (add-one k) (by (leb a k) refl)
+    where
+      by : (b : Bool) → leb a k ≡ b → every p (suc k) a ≡ true
+      by true q = rw (q, every) (and_both h e)
+      by false q = rw (q, every)
 
-module _ (p : ℕ → Bool) (a b k : ℕ) (l : Left p a b k) where
-  pub left_ends : k ≤ a → true ≡ every p b a
-  left_ends h = sym (l.is ∙ every_stop p a k h)
+  pub every_fails : (n : ℕ) → a ≤ k → k < n → p k ≡ false → false ≡ every p n a
+  every_fails n l h f = by (every p n a) refl
+    where
+      by : (b : Bool) → every p n a ≡ b → false ≡ b
+      by true e = absurd (false≢true (sym f ∙ every→ p n a e k l h))
+      by false e = refl
 
-  module _ (h : a < k) (passes : Bool) (e : passes ≡ p (k - 1)) where
-    pub left_on : passes ≡ true → Left p a b (k - 1)
-    left_on f = record { is = l.is ∙ every_step p a k h ∙ rw (← e, f); low = omega (arith, l.low) }
-
-    pub left_no : passes ≡ false → false ≡ every p b a
-    left_no f = sym (l.is ∙ every_step p a k h ∙ rw (← e, f))
+  pub every_through : (n : ℕ) → every p k a ≡ true → n ≤ k → (a ≤ n → k ≤ n) → true ≡ every p n a
+  every_through n e h l = by (leb a n) refl
+    where
+      by : (b : Bool) → leb a n ≡ b → true ≡ every p n a
+      by true q = let all : k ≡ n = omega (arith, l (leb-true a n q)) in sym (subst (λ (m : ℕ). every p m a ≡ true) all e)
+      by false q = sym (every_stop p a n (omega (arith, leb-false a n q)))

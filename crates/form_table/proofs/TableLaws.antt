@@ -1,7 +1,7 @@
 -- The table is filled line by line, attribute by attribute; and what is looked up in it is what the form says.
-use Prim.Native.Nat.{ℕ, zero, suc, ◌+◌, ◌*◌, ◌-◌, ◌<◌, ◌≤◌}
+use Prim.Native.Nat.{ℕ, suc, ◌+◌, ◌*◌, ◌-◌, ◌<◌, ◌≤◌}
 use native.Mathlib.Omega.{arith}
-use native.Mathlib.Numerals.{add-one, sub-one}
+use native.Mathlib.Numerals.{add-one}
 use mathlib.Core.Path.{◌≡◌, refl, sym, ap, subst, ◌∙◌}
 use mathlib.Core.Logic.{◌↔◌}
 use mathlib.Core.Bool.{Bool, true, false, not, ◌&&◌, ◌||◌, and-false}
@@ -21,7 +21,9 @@ use Rattle.next_children.specs.Line.{NextsLine, Filled}
 use Rattle.next_children.proofs.LineLaws.{ends_more}
 use Rattle.form_index.specs.Reading.{model_part}
 use Rattle.form_table.specs.Every.{every}
-use Rattle.form_table.specs.Table.{wants, freed_of, Modelled, Tabled, Lined, SetsStay, OneNeed, Needs}
+use Rattle.layout.specs.declared.Form.{Form}
+use Rattle.layout.specs.Form.{FormOf}
+use Rattle.form_table.specs.Table.{wants, Modelled, Tabled, Lined, SetsStay, OneNeed, Needs}
 use Rattle.form_table.proofs.Numbers.{every→, every←}
 
 -- ---- a line that is left alone
@@ -34,38 +36,39 @@ line_same n at ms t t' small same l =
     }
 
 -- ---- the loop over the definitions
-pub record Lining (n : ℕ) (defs parts : Bytes) (i : ℕ) (t t' : List ℕ) : Type 0 where
-  pub low : i ≤ n
+pub record Lining (f : Form) (i : ℕ) (t t' : List ℕ) : Type 0 where
   pub long : length t' ≡ length t
-  pub lined : Lined n defs parts i t'
+  pub lined : Lined f i t'
 
-module _ (n : ℕ) (defs parts : Bytes) (t : List ℕ) where
-  pub lining_starts : Lining n defs parts 0 t t
-  lining_starts = record { low = omega arith; long = refl; lined = record { models = record { line = λ k h. absurd (omega arith) }; blank = λ k h. absurd (omega arith) } }
+module _ (f : Form) (t : List ℕ) where
+  abbrev model_of : ℕ → Bytes
+  model_of k = model_part f.definitions.now f.particles.now k
 
-  module _ (i : ℕ) (t₁ : List ℕ) (l : Lining n defs parts i t t₁) (small : n ≤ 64) (room : 4352 ≤ length t) where
-    pub lining_on : i < n → (t₂ : List ℕ) (part : Bytes) → part ≡ model_part defs parts i → Filled n (all_members part) t₁ (68 * i) t₂ → length t₂ ≡ length t₁
-        → Lining n defs parts (i + 1) t (set t₂ (68 * i + 67) 0)
-    lining_on h t₂ part e f long =
+  pub lining_starts : Lining f 0 t t
+  lining_starts = record { long = refl; lined = record { models = record { line = λ k h. absurd (omega arith) }; blank = λ k h. absurd (omega arith) } }
+
+  module _ (i : ℕ) (t₁ : List ℕ) (l : Lining f i t t₁) (small : f.definition_count ≤ 64) (room : 4352 ≤ length t) where
+    pub lining_on : i < f.definition_count → (t₂ : List ℕ) (part : Bytes) → part ≡ model_of i → Filled f.definition_count (all_members part) t₁ (68 * i) t₂ → length t₂ ≡ length t₁
+        → Lining f (i + 1) t (set t₂ (68 * i + 67) 0)
+    lining_on h t₂ part e filled long =
         record {
-          low = omega arith;
           long = length-set t₂ (68 * i + 67) 0 ∙ long ∙ l.long;
           lined = record { models = record { line = λ k q. lines k q (eqb k i) refl }; blank = λ k q. blanks k q (eqb k i) refl };
         }
       where
         -- before this line nothing moves
         same : (k j : ℕ) → k < i → j ≤ 67 → get_or (set t₂ (68 * i + 67) 0) (68 * k + j) 0 ≡ get_or t₁ (68 * k + j) 0
-        same k j q m = get_or-set_other t₂ (68 * i + 67) (68 * k + j) 0 0 (λ z. omega arith) ∙ f.rest.kept (68 * k + j) (omega arith)
+        same k j q m = get_or-set_other t₂ (68 * i + 67) (68 * k + j) 0 0 (λ z. omega arith) ∙ filled.rest.kept (68 * k + j) (omega arith)
 
-        lines : (k : ℕ) → k < i + 1 → (b : Bool) → eqb k i ≡ b → NextsLine n (all_members (model_part defs parts k)) (68 * k) (set t₂ (68 * i + 67) 0)
+        lines : (k : ℕ) → k < i + 1 → (b : Bool) → eqb k i ≡ b → NextsLine f.definition_count (all_members (model_of k)) (68 * k) (set t₂ (68 * i + 67) 0)
         lines k q true z =
-            subst (λ (x : ℕ). NextsLine n (all_members (model_part defs parts x)) (68 * x) (set t₂ (68 * i + 67) 0)) (sym (eqb-true k i z))
-            (line_same n (68 * i) (all_members (model_part defs parts i)) t₂ (set t₂ (68 * i + 67) 0) small (λ j m. get_or-set_other t₂ (68 * i + 67) (68 * i + j) 0 0 (λ y. omega arith))
-            (subst (λ (x : Bytes). NextsLine n (all_members x) (68 * i) t₂) e f.line))
+            subst (λ (x : ℕ). NextsLine f.definition_count (all_members (model_of x)) (68 * x) (set t₂ (68 * i + 67) 0)) (sym (eqb-true k i z))
+            (line_same f.definition_count (68 * i) (all_members (model_of i)) t₂ (set t₂ (68 * i + 67) 0) small (λ j m. get_or-set_other t₂ (68 * i + 67) (68 * i + j) 0 0 (λ y. omega arith))
+            (subst (λ (x : Bytes). NextsLine f.definition_count (all_members x) (68 * i) t₂) e filled.line))
         lines k q false z =
             let u : k ≡ i → ⊥ = eqb-false k i z in
             let v : k < i = omega (arith, u) in
-            line_same n (68 * k) (all_members (model_part defs parts k)) t₁ (set t₂ (68 * i + 67) 0) small (λ j m. same k j v (omega arith)) (l.lined.models.line k v)
+            line_same f.definition_count (68 * k) (all_members (model_of k)) t₁ (set t₂ (68 * i + 67) 0) small (λ j m. same k j v (omega arith)) (l.lined.models.line k v)
 
         blanks : (k : ℕ) → k < i + 1 → (b : Bool) → eqb k i ≡ b → get_or (set t₂ (68 * i + 67) 0) (68 * k + 67) 0 ≡ 0
         blanks k q true z = let u : k ≡ i = eqb-true k i z in rw u (get_or-set_same t₂ (68 * i + 67) 0 0 (omega (arith, l.long, long)))
@@ -73,9 +76,6 @@ module _ (n : ℕ) (defs parts : Bytes) (t : List ℕ) where
             let u : k ≡ i → ⊥ = eqb-false k i z in
             let v : k < i = omega (arith, u) in
             same k 67 v (omega arith) ∙ l.lined.blank k v
-
-    pub lining_ends : n ≤ i → Lined n defs parts n t₁
-    lining_ends h = let e : i ≡ n = omega (arith, l.low) in subst (λ (x : ℕ). Lined n defs parts x t₁) e l.lined
 
 -- ---- one attribute
 apart_same : (t : List ℕ) → SetsStay t t
@@ -87,17 +87,17 @@ stays false w c e = rw e
 
 -- attribute j has the owner o and the sort s
 -- o: its owner; s: whether a row of it must be there
-module _ (version w n : ℕ) (attrs : Bytes) (j : ℕ) (t : List ℕ) (o : ℕ) (s : Bool) (r : (i : ℕ) → (eqb o i && s) ≡ wants version w attrs i j) where
-  not_wanted : ((i : ℕ) → i < n → (eqb o i && s) ≡ false) → OneNeed version w n attrs j t t
-  not_wanted f = record { apart = apart_same t; wanted = λ i k h m. stays (has (get_or t (68 * i + 67) 0) k) (wants version w attrs i j) (eqb k j) (sym (r i) ∙ f i h) }
+module _ (f : Form) (j : ℕ) (t : List ℕ) (o : ℕ) (s : Bool) (r : (i : ℕ) → (eqb o i && s) ≡ wants f i j) where
+  not_wanted : ((i : ℕ) → i < f.definition_count → (eqb o i && s) ≡ false) → OneNeed f j t t
+  not_wanted unwanted = record { apart = apart_same t; wanted = λ i k h m. stays (has (get_or t (68 * i + 67) 0) k) (wants f i j) (eqb k j) (sym (r i) ∙ unwanted i h) }
 
-  pub need_other : not s ≡ true → OneNeed version w n attrs j t t
+  pub need_other : not s ≡ true → OneNeed f j t t
   need_other h = not_wanted (λ i m. ap (λ (b : Bool). eqb o i && b) (not-true s h) ∙ and-false (eqb o i))
 
-  pub need_past : n ≤ o → OneNeed version w n attrs j t t
+  pub need_past : f.definition_count ≤ o → OneNeed f j t t
   need_past h = not_wanted (λ i m. ap (λ (b : Bool). b && s) (ne_eqb o i (λ z. omega arith)))
 
-  pub need_put : not s ≡ false → o < n → n ≤ 64 → 4352 ≤ length t → (v : ℕ) → v ≡ union (get_or t (68 * o + 67) 0) (bit j) → OneNeed version w n attrs j t (set t (68 * o + 67) v)
+  pub need_put : not s ≡ false → o < f.definition_count → f.definition_count ≤ 64 → 4352 ≤ length t → (v : ℕ) → v ≡ union (get_or t (68 * o + 67) 0) (bit j) → OneNeed f j t (set t (68 * o + 67) v)
   need_put h l small room v e =
       record {
         apart = record { same = λ i k m. get_or-set_other t (68 * o + 67) (68 * i + k) v 0 (λ z. omega arith) };
@@ -105,71 +105,72 @@ module _ (version w n : ℕ) (attrs : Bytes) (j : ℕ) (t : List ℕ) (o : ℕ) 
       }
     where
       by : (i k : ℕ) → k < 64 → (b : Bool) → eqb o i ≡ b
-          → has (get_or (set t (68 * o + 67) v) (68 * i + 67) 0) k ≡ (has (get_or t (68 * i + 67) 0) k || (wants version w attrs i j && eqb k j))
+          → has (get_or (set t (68 * o + 67) v) (68 * i + 67) 0) k ≡ (has (get_or t (68 * i + 67) 0) k || (wants f i j && eqb k j))
       by i k m true z =
           let u : o ≡ i = eqb-true o i z in
-          let y : wants version w attrs i j ≡ true = sym (r i) ∙ rw (z, not-false s h) in
+          let y : wants f i j ≡ true = sym (r i) ∙ rw (z, not-false s h) in
           rw (y, ← u) (ap (λ (x : ℕ). has x k) (get_or-set_same t (68 * o + 67) v 0 (omega arith) ∙ e) ∙ has_with (get_or t (68 * o + 67) 0) j k m)
       by i k m false z =
           let u : o ≡ i → ⊥ = eqb-false o i z in
           ap (λ (x : ℕ). has x k) (get_or-set_other t (68 * o + 67) (68 * i + 67) v 0 (λ q. u (omega arith)))
-          ∙ stays (has (get_or t (68 * i + 67) 0) k) (wants version w attrs i j) (eqb k j) (sym (r i) ∙ ap (λ (b : Bool). b && s) z)
+          ∙ stays (has (get_or t (68 * i + 67) 0) k) (wants f i j) (eqb k j) (sym (r i) ∙ ap (λ (b : Bool). b && s) z)
 
 -- ---- the loop over the attributes
-pub record Needing (version w n : ℕ) (attrs : Bytes) (a j : ℕ) (t t' : List ℕ) : Type 0 where
-  pub low : j ≤ a
+pub record Needing (f : Form) (j : ℕ) (t t' : List ℕ) : Type 0 where
   pub long : length t' ≡ length t
-  pub needs : Needs version w n attrs j t t'
+  pub needs : Needs f j t t'
 
-module _ (version w n : ℕ) (attrs : Bytes) (a : ℕ) (t : List ℕ) where
-  pub needing_starts : Needing version w n attrs a 0 t t
+module _ (f : Form) (t : List ℕ) where
+  pub needing_starts : Needing f 0 t t
   needing_starts =
       record {
-        low = omega arith;
         long = refl;
-        needs = record { apart = apart_same t; wanted = λ i k h m z. ap (λ (s : ℕ). has s k) z ∙ has_none k ∙ sym (ap (λ (b : Bool). b && wants version w attrs i k) (le-ltb k 0 (omega arith))) };
+        needs = record { apart = apart_same t; wanted = λ i k h m z. ap (λ (s : ℕ). has s k) z ∙ has_none k ∙ sym (ap (λ (b : Bool). b && wants f i k) (le-ltb k 0 (omega arith))) };
       }
 
-  module _ (j : ℕ) (t₁ : List ℕ) (l : Needing version w n attrs a j t t₁) where
-    pub needing_on : j < a → (t₂ : List ℕ) → OneNeed version w n attrs j t₁ t₂ → length t₂ ≡ length t₁ → Needing version w n attrs a (j + 1) t t₂
-    needing_on h t₂ o long =
+  module _ (j : ℕ) (t₁ : List ℕ) (l : Needing f j t t₁) where
+    pub needing_on : (t₂ : List ℕ) → OneNeed f j t₁ t₂ → length t₂ ≡ length t₁ → Needing f (j + 1) t t₂
+    needing_on t₂ o long =
         record {
-          low = omega arith;
           long = long ∙ l.long;
           needs =
               record {
                 apart = record { same = λ i k m. o.apart.same i k m ∙ l.needs.apart.same i k m };
                 wanted =
-                    λ i k q m z. o.wanted i k q m ∙ ends_more j k (has (get_or t₁ (68 * i + 67) 0) k) (wants version w attrs i j) (wants version w attrs i) refl (l.needs.wanted i k q m z)
-                    ∙ ap (λ (x : ℕ). ltb k x && wants version w attrs i k) (sym (add-one j));
+                    λ i k q m z. o.wanted i k q m ∙ ends_more j k (has (get_or t₁ (68 * i + 67) 0) k) (wants f i j) (wants f i) refl (l.needs.wanted i k q m z)
+                    ∙ ap (λ (x : ℕ). ltb k x && wants f i k) (sym (add-one j));
               };
         }
 
-    pub needing_ends : a ≤ j → Needs version w n attrs a t t₁
-    needing_ends h = let e : j ≡ a = omega (arith, l.low) in subst (λ (x : ℕ). Needs version w n attrs x t t₁) e l.needs
-
 -- ---- the whole table
-pub table_filled : (version w n : ℕ) (defs parts attrs : Bytes) (a : ℕ) (t t' : List ℕ) → n ≤ 64 → Lined n defs parts n t → Needs version w n attrs a t t'
-    → 4352 ≤ length t' → Tabled version w n defs parts attrs a t'
-table_filled version w n defs parts attrs a t t' small l f long =
+-- the table of the form of a byte string, however it is lent
+pub tabled_same : {bs : Bytes} {f f' : Form} {t : List ℕ} → FormOf bs f → FormOf bs f' → Tabled f t → Tabled f' t
+tabled_same {bs} {f} {f'} {t} a b x =
+    let n : f.definition_count ≡ f'.definition_count = a.definition_count ∙ sym b.definition_count in
+    let c : f.attribute_count ≡ f'.attribute_count = a.attribute_count ∙ sym b.attribute_count in
+    let v : f.version ≡ f'.version = a.version ∙ sym b.version in
+    let w : f.width ≡ f'.width = a.width ∙ sym b.width in
+    let d : f.definitions.now ≡ f'.definitions.now = a.definitions ∙ sym b.definitions in
+    let p : f.particles.now ≡ f'.particles.now = a.particles ∙ sym b.particles in
+    let s : f.attributes.now ≡ f'.attributes.now = a.attributes ∙ sym b.attributes in
     record {
-      long = long;
-      models = record { line = λ k h. line_same n (68 * k) (all_members (model_part defs parts k)) t t' small (λ j m. f.apart.same k j m) (l.models.line k h) };
-      needed = λ i h. record { is = λ j m. f.wanted i j h m (l.blank i h) };
+      long = x.long;
+      models = record { line = λ k h. rw (← n, ← d, ← p) (x.models.line k (omega (arith, n))) };
+      needed = λ i h. record { is = λ j m. rw (← c, ← v, ← w, ← s) ((x.needed i (omega (arith, n))).is j m) };
     }
 
 -- ---- children, looked up
-module _ (n : ℕ) (defs parts : Bytes) (t : List ℕ) (m : Modelled n defs parts n t) (i : ℕ) (h : i < n) (last : ℕ) (b : Bool) where
-  pub follow_found : (index : ℕ) → last ≤ n → index < 64 → b ≡ has (get_or t (68 * i + last) 0) index → b ≡ steps (all_members (model_part defs parts i)) last index
+module _ (f : Form) (t : List ℕ) (m : Modelled f f.definition_count t) (i : ℕ) (h : i < f.definition_count) (last : ℕ) (b : Bool) where
+  pub follow_found : (index : ℕ) → last ≤ f.definition_count → index < 64 → b ≡ has (get_or t (68 * i + last) 0) index → b ≡ steps (all_members (model_part f.definitions.now f.particles.now i)) last index
   follow_found index l k e = e ∙ (m.line i h).next_is last index l k
 
-  pub finish_none : last ≡ 0 → b ≡ has (get_or t (68 * i + 66) 0) 0 → b ≡ finishes (all_members (model_part defs parts i)) last
+  pub finish_none : last ≡ 0 → b ≡ has (get_or t (68 * i + 66) 0) 0 → b ≡ finishes (all_members (model_part f.definitions.now f.particles.now i)) last
   finish_none z e = rw z (e ∙ (m.line i h).nothing_is)
 
-  pub finish_child : (last ≡ 0 → ⊥) → last ≤ n → b ≡ has (get_or t (68 * i + 65) 0) (last - 1) → b ≡ finishes (all_members (model_part defs parts i)) last
+  pub finish_child : (last ≡ 0 → ⊥) → last ≤ f.definition_count → b ≡ has (get_or t (68 * i + 65) 0) (last - 1) → b ≡ finishes (all_members (model_part f.definitions.now f.particles.now i)) last
   finish_child z l e =
       let u : suc (last - 1) ≡ last = omega (arith, z) in
-      e ∙ (m.line i h).ends_is (last - 1) (omega (arith, z)) ∙ ap (finishes (all_members (model_part defs parts i))) u
+      e ∙ (m.line i h).ends_is (last - 1) (omega (arith, z)) ∙ ap (finishes (all_members (model_part f.definitions.now f.particles.now i))) u
 
 -- ---- attributes, looked up
 not_has : (b : Bool) → b ≡ false → not b ≡ true
@@ -179,7 +180,3 @@ pub none_spares : (s from to : ℕ) (b : Bool) → ((b ≡ true) ↔ ((k : ℕ) 
 none_spares s from to b e =
     same_truth b (every (λ j. not (has s j)) to from) (λ z. every← (λ j. not (has s j)) to from (λ k h l. not_has (has s k) (e.0 z k h l)))
     (λ z. e.1 (λ k h l. has-not (has s k) (every→ (λ j. not (has s j)) to from z k h l)))
-
-pub freed_from : (s a seen : ℕ) (b : Bool) → (seen ≡ 0 → ⊥) → b ≡ every (λ j. not (has s j)) a (seen - 1) → b ≡ freed_of s a seen
-freed_from s a zero b z e = absurd (z refl)
-freed_from s a (suc x) b z e = rw sub-one at e

@@ -2,41 +2,44 @@
 //! next_children::fill writes and the attributes that it needs.
 #![tactic(auto)]
 
-ghost use Rattle.std.specs.Prelude.{◌≡◌, not, ◌<◌, ◌≤◌, length};
-ghost use Rattle.layout.specs.Bodies.{Width};
+ghost use Rattle.std.specs.Prelude.{◌≡◌, not, ◌<◌, ◌≤◌, length, get_or, ◌+◌, ◌*◌};
 ghost use Rattle.sets.specs.Sets.{has};
 ghost use Rattle.model.specs.Members.{all_members};
 ghost use Rattle.model.specs.Steps.{steps, finishes};
 ghost use Rattle.form_index.specs.Reading.{model_part};
 ghost use Rattle.form_table.specs.Every.{every};
-ghost use Rattle.form_table.specs.Table.{freed_of, Modelled, Lined, OneNeed, Needs, Tabled};
+ghost use Rattle.form_table.specs.Table.{freed_of, FormFew, Lined, Needed, OneNeed, Needs, TabledForm};
 
+use layout::Form;
+
+/// The numbers of a table: 68 for each of 64 definitions.
 pub const TABLE: usize = 4352;
 
+// ---- the table is filled
 // The models' sets.
-fn lay_models(n: usize, defs: &[u8], parts: &[u8], table: &mut [u64])
-    requires { (n ≤ 64) × (4352 ≤ length table.old) }
-    ensures { Lined n defs.now parts.now n table.new }
+fn lay_models(form: &Form<'_>, table: &mut [u64])
+    requires { FormFew form.now × (4352 ≤ length table.old) }
+    ensures { Lined form.now form.now.definition_count table.new }
 {
-    let mut i = 0;
-    while i < n {
-        next_children::fill(form_index::model_part(defs, parts, i), n, 68 * i, table);
+    let n = form.definition_count;
+    for i in 0..n {
+        let part = form_index::model_part(form.definitions, form.particles, i);
+        next_children::fill(part, n, 68 * i, table);
         table[68 * i + 67] = 0;
-        i += 1;
     }
 }
 
 // Attribute j, if its owner needs it.
-fn lay_need(version: usize, w: usize, n: usize, attrs: &[u8], j: usize, table: &mut [u64])
-    requires { Width w × (n ≤ 64) × (j < 64) × (4352 ≤ length table.old) }
-    ensures { OneNeed version w n attrs.now j table.old table.new }
+fn lay_need(form: &Form<'_>, j: usize, table: &mut [u64])
+    requires { FormFew form.now × (j < 64) × (4352 ≤ length table.old) }
+    ensures { OneNeed form.now j table.old table.new }
 {
-    let record = layout::attribute_at(w, attrs, j);
+    let record = layout::attribute_at(form.width, form.attributes, j);
     let i = layout::attribute_owner(record);
-    if !records::must_be_present(version, layout::attribute_sort(record)) {
+    if !records::must_be_present(form.version, layout::attribute_sort(record)) {
         return;
     }
-    if i >= n {
+    if i >= form.definition_count {
         return;
     }
     let old = table[68 * i + 67];
@@ -44,66 +47,77 @@ fn lay_need(version: usize, w: usize, n: usize, attrs: &[u8], j: usize, table: &
 }
 
 // The attributes that each definition needs.
-fn lay_needs(version: usize, w: usize, n: usize, a: usize, attrs: &[u8], table: &mut [u64])
-    requires { Width w × (n ≤ 64) × (a ≤ 64) × (4352 ≤ length table.old) }
-    ensures { Needs version w n attrs.now a table.old table.new }
+fn lay_needs(form: &Form<'_>, table: &mut [u64])
+    requires { FormFew form.now × (4352 ≤ length table.old) }
+    ensures { Needs form.now form.now.attribute_count table.old table.new }
 {
-    let mut j = 0;
-    while j < a {
-        lay_need(version, w, n, attrs, j, table);
-        j += 1;
+    for j in 0..form.attribute_count {
+        lay_need(form, j, table);
     }
 }
 
-pub fn fill_table(
-    version: usize,
-    w: usize,
-    n: usize,
-    defs: &[u8],
-    parts: &[u8],
-    a: usize,
-    attrs: &[u8],
-    table: &mut [u64],
-)
-    requires { Width w × (n ≤ 64) × (a ≤ 64) × (4352 ≤ length table.old) }
-    ensures { Tabled version w n defs.now parts.now attrs.now a table.new }
+/// The table of a form.
+pub fn fill_table(form: &Form<'_>, table: &mut [u64])
+    requires { FormFew form.now × (4352 ≤ length table.old) }
+    ensures { TabledForm form.now table.new }
 {
-    lay_models(n, defs, parts, table);
-    lay_needs(version, w, n, a, attrs, table);
+    lay_models(form, table);
+    lay_needs(form, table);
 }
 
-// ---- children, looked up
-/// Whether the child `index` may come after `last`; what the table does not have is looked up in the model.
-pub fn may_follow(
-    n: usize,
-    defs: &[u8],
-    parts: &[u8],
-    table: &[u64],
-    i: usize,
-    last: usize,
-    index: usize,
-) -> bool
-    requires { (n ≤ 64) × (i < n) × (4352 ≤ length table.now) × Modelled n defs.now parts.now n table.now }
-    ensures { result ≡ steps (all_members (model_part defs.now parts.now i)) last index }
-{
-    if (last <= n) & (index < 64) {
-        return sets::contains(table[68 * i + last], index);
-    }
-    automaton::steps(form_index::model_part(defs, parts, i), last, index)
+// ---- the table is looked up
+/// A form of no more definitions and attributes than a table has room for, and its table.
+#[derive(Clone, Copy)]
+pub struct FormTable<'a> {
+    pub form: Form<'a>,
+    pub sets: &'a [u64],
+    pub ghost tabled: { TabledForm form sets.now },
 }
 
-/// Whether no child is owed after `last`.
-pub fn may_finish(n: usize, defs: &[u8], parts: &[u8], table: &[u64], i: usize, last: usize) -> bool
-    requires { (n ≤ 64) × (i < n) × (4352 ≤ length table.now) × Modelled n defs.now parts.now n table.now }
-    ensures { result ≡ finishes (all_members (model_part defs.now parts.now i)) last }
-{
-    if last == 0 {
-        return sets::contains(table[68 * i + 66], 0);
+impl FormTable<'_> {
+    /// The attributes that definition i needs.
+    pub fn needed(&self, i: usize) -> u64
+        requires { i < self.now.form.definition_count }
+        ensures { Needed self.now.form i result }
+    {
+        self.sets[68 * i + 67]
     }
-    if last <= n {
-        return sets::contains(table[68 * i + 65], last - 1);
+
+    /// Whether the child `index` may come after `last` below definition i; what the table does not have is looked up
+    /// in the model.
+    pub fn may_follow(&self, i: usize, last: usize, index: usize) -> bool
+        requires { i < self.now.form.definition_count }
+        ensures { result
+            ≡ steps (all_members (model_part self.now.form.definitions.now self.now.form.particles.now i)) last index }
+    {
+        if (last <= self.form.definition_count) & (index < 64) {
+            return sets::contains(self.sets[68 * i + last], index);
+        }
+        automaton::steps(self.model(i), last, index)
     }
-    automaton::finishes(form_index::model_part(defs, parts, i), last)
+
+    /// Whether no child is owed after `last` below definition i.
+    pub fn may_finish(&self, i: usize, last: usize) -> bool
+        requires { i < self.now.form.definition_count }
+        ensures { result
+            ≡ finishes (all_members (model_part self.now.form.definitions.now self.now.form.particles.now i)) last }
+    {
+        if last == 0 {
+            return sets::contains(self.sets[68 * i + 66], 0);
+        }
+        if last <= self.form.definition_count {
+            return sets::contains(self.sets[68 * i + 65], last - 1);
+        }
+        automaton::finishes(self.model(i), last)
+    }
+
+    // Definition i's part of the particles.
+    fn model(&self, i: usize) -> &[u8]
+        requires { i < self.now.form.definition_count }
+        ensures { result.now ≡ model_part self.now.form.definitions.now self.now.form.particles.now i }
+    {
+        form_index::model_part(self.form.definitions, self.form.particles, i)
+    }
 }
 
 // ---- attributes, looked up

@@ -5,7 +5,9 @@ use Rattle.rules.specs.Layout.{FlatRow}
 use Rattle.model.specs.Steps.{steps, finishes}
 use Rattle.form_index.specs.Indices.{IndexForm}
 use Rattle.form_table.specs.Every.{every}
+use Rattle.next_row.specs.declared.OpenElement.{OpenElement}
 use Rattle.next_row.specs.declared.Level.{Level}
+use Rattle.next_row.specs.declared.Level.TheVariants.{Documents, Element, Nothing}
 use Rattle.next_row.specs.Automaton.{Automaton}
 
 -- ---- children, after `last` (0: none, else 1 and the index of the last), by the kind of the definition
@@ -19,18 +21,24 @@ children_end zero ms last = true
 children_end (suc zero) ms last = not (eqb last 0)
 children_end (suc (suc k)) ms last = finishes ms last
 
--- the level after a row, by whether it is an attribute's; and the level that a row opens, by whether it is an element
+-- an open element after a row below it, by whether the row is an attribute's
+abbrev pub element_after : Bool → OpenElement → ℕ → OpenElement
+element_after true e j = record { index = e.index; seen = suc (suc j); last = e.last }
+element_after false e j = record { index = e.index; seen = 0; last = suc j }
+
+-- the level after a row; and the level that a row opens, by whether it is an element
 abbrev pub level_after : Bool → Level → ℕ → Level
-level_after true l j = record { holds = l.holds; index = l.index; seen = suc (suc j); last = l.last }
-level_after false l j = record { holds = l.holds; index = l.index; seen = 0; last = suc j }
+level_after attribute Documents j = Documents
+level_after attribute (Element e) j = Element (element_after attribute e j)
+level_after attribute Nothing j = Nothing
 
 abbrev pub entered : Bool → ℕ → Level
-entered true i = record { holds = 1; index = i; seen = 1; last = 0 }
-entered false i = record { holds = 2; index = 0; seen = 0; last = 0 }
+entered true i = Element (record { index = i; seen = 1; last = 0 })
+entered false i = Nothing
 
 -- the place of the documents
 abbrev pub ground_level : Level
-ground_level = record { holds = 0; index = 0; seen = 0; last = 0 }
+ground_level = Documents
 
 module _ (f : IndexForm) where
   -- attribute j may be missing below definition i
@@ -47,29 +55,29 @@ module _ (f : IndexForm) where
   freed i (suc a) = every (spare i) f.attributes a
 
   -- ---- below an element; the first argument: whether the row is an attribute's
-  abbrev pub row_may : Bool → Level → FlatRow → Bool
-  row_may true l r = attribute_may l.index l.seen r
-  row_may false l r = freed l.index l.seen && child_may (f.kind l.index) (f.model l.index) l.last r.sort r.index
+  abbrev pub row_may : Bool → OpenElement → FlatRow → Bool
+  row_may true e r = attribute_may e.index e.seen r
+  row_may false e r = freed e.index e.seen && child_may (f.kind e.index) (f.model e.index) e.last r.sort r.index
 
-  abbrev pub rows_end : Level → Bool
-  rows_end l = freed l.index l.seen && children_end (f.kind l.index) (f.model l.index) l.last
+  abbrev pub rows_end : OpenElement → Bool
+  rows_end e = freed e.index e.seen && children_end (f.kind e.index) (f.model e.index) e.last
 
-  -- ---- by what a level holds
-  abbrev pub may : ℕ → Level → FlatRow → Bool
-  may zero l r = eqb r.sort 1
-  may (suc zero) l r = ltb l.index f.size && row_may (eqb r.sort 2) l r
-  may (suc (suc h)) l r = false
+  -- ---- at a level
+  abbrev pub may : Level → FlatRow → Bool
+  may Documents r = eqb r.sort 1
+  may (Element e) r = ltb e.index f.size && row_may (eqb r.sort 2) e r
+  may Nothing r = false
 
-  abbrev pub ends : ℕ → Level → Bool
-  ends zero l = true
-  ends (suc zero) l = ltb l.index f.size && rows_end l
-  ends (suc (suc h)) l = true
+  abbrev pub ends : Level → Bool
+  ends Documents = true
+  ends (Element e) = ltb e.index f.size && rows_end e
+  ends Nothing = true
 
   abbrev pub judge : Automaton FlatRow Level
   judge =
       record {
         enter = λ r. entered (eqb r.sort 1) r.index;
-        may = λ l r. may l.holds l r;
+        may = may;
         next = λ l r. level_after (eqb r.sort 2) l r.index;
-        ends = λ l. ends l.holds l;
+        ends = ends;
       }

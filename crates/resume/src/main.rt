@@ -15,13 +15,6 @@ use sample_stores::{CLUB, LEGS};
 
 // ---- the two parts of a walk
 
-// What the first part leaves: whether its rows may all come, and the state after them.
-#[derive(Clone, Copy)]
-struct Stop {
-    came: bool,
-    state: [u8; STATE],
-}
-
 // Whether the walk may be asked of `count` rows: the counts are within the ceilings, and the rows are there.
 fn askable(before: &[u8], rows: &[u8], count: usize) -> bool
     ensures { result ≡ true → FewIn before.now × (row_size (width_of before.now) * count ≤ length rows.now) }
@@ -39,17 +32,19 @@ fn askable(before: &[u8], rows: &[u8], count: usize) -> bool
     layout::times(size, count) <= rows.len()
 }
 
-// The first `count` rows, from the start.
-fn walk_first(before: &[u8], rows: &[u8], count: usize) -> Stop {
-    let mut state = [0; STATE];
+// The first part: the state after the first `count` rows, if they may all come.
+fn walk_first(before: &[u8], rows: &[u8], count: usize) -> Option<[u8; STATE]> {
     if !askable(before, rows, count) {
-        return Stop { came: false, state };
+        return None;
     }
+    let mut state = [0; STATE];
     let mut table: [u64; form_table::TABLE] = [0; form_table::TABLE];
     row_check::lay_table(before, &mut table);
     let next = layout::next_serial(before);
-    let came = row_check::walk_rows(before, next, &table, &mut state, rows, count);
-    Stop { came, state }
+    if !row_check::walk_rows(before, next, &table, &mut state, rows, count) {
+        return None;
+    }
+    Some(state)
 }
 
 // The answer from the bytes of a state on, over the `count` rows left.
@@ -81,11 +76,9 @@ fn whole_answer(before: &[u8], rows: &[u8], count: usize) -> bool {
 fn answer_by_parts(before: &[u8], rows: &[u8], count: usize, m: usize) -> bool
     requires { m ≤ 4096 }
 {
-    let stop = walk_first(before, rows, m);
-    if !stop.came {
+    let Some(state) = walk_first(before, rows, m) else {
         return false;
-    }
-    let state = stop.state;
+    };
     let size = layout::row_size(layout::width_in(before));
     let left = codec::after(rows, layout::times(size, m));
     answer_after(before, &state, left, layout::minus(count, m))
@@ -96,12 +89,10 @@ fn same_answers(before: &[u8], rows: &[u8], count: usize, whole: bool) -> usize
     requires { count ≤ 4096 }
 {
     let mut same = 0;
-    let mut m = 0;
-    while m <= count {
+    for m in 0..=count {
         if answer_by_parts(before, rows, count, m) == whole {
             same += 1;
         }
-        m += 1;
     }
     same
 }
@@ -110,15 +101,12 @@ fn same_answers(before: &[u8], rows: &[u8], count: usize, whole: bool) -> usize
 fn rows_that_come(before: &[u8], rows: &[u8], count: usize) -> usize
     requires { count ≤ 4096 }
 {
-    let mut m = 0;
-    while m < count {
-        let stop = walk_first(before, rows, m + 1);
-        if !stop.came {
+    for m in 0..count {
+        if walk_first(before, rows, m + 1).is_none() {
             return m;
         }
-        m += 1;
     }
-    m
+    count
 }
 
 // ---- a line for each case

@@ -1,19 +1,19 @@
 -- The pass with the automaton of a form accepts exactly the rows of documents that conform to it.
 use Prim.Native.Nat.{ℕ, suc, ◌<◌}
-use native.Mathlib.Omega.{arith}
 use mathlib.Core.Path.{◌≡◌, refl, ap, ◌∙◌, sym}
 use mathlib.Core.Logic.{◌↔◌}
 use mathlib.Core.Bool.{Bool, true, false, ◌&&◌, false≢true}
 use mathlib.Core.List.{List, [], ◌∷◌, ◌++◌}
 use lib.Dec.{ltb, eqb}
 use lib.ListN.{length, get_or}
-use borrow.Author.Tests.{lt-ltb, ltb-true, eq-eqb, ne_eqb, eqb-true}
+use borrow.Author.Tests.{lt-ltb, ltb-true, eq-eqb, eqb-true}
 use Rattle.rules.specs.Model.{Distinct, names}
 use Rattle.rules.specs.Store.{Forest, bare, tree, heads}
 use Rattle.rules.specs.Preorder.{Deep}
 use Rattle.rules.specs.Layout.{FlatRow}
 use Rattle.rules.proofs.Words.{and_both, and_split}
 use Rattle.next_row.specs.declared.Level.{Level}
+use Rattle.next_row.specs.declared.Level.TheVariants.{Element}
 use Rattle.form_index.specs.Indices.{IndexForm, Sort, Below, Everywhere, Documents}
 use Rattle.row_check.specs.Machine.{rows_run, Fine, machine}
 use Rattle.form_table.specs.Every.{every}
@@ -24,7 +24,7 @@ use Rattle.row_check.proofs.Children.{sort_none, sort_more, sort_first, sort_res
 
 -- a level of the rows below an element
 abbrev inside : ℕ → ℕ → ℕ → Level
-inside i seen last = record { holds = 1; index = i; seen = seen; last = last }
+inside i seen last = Element (record { index = i; seen = seen; last = last })
 
 -- the rows right below a row, by whether it is an element
 abbrev pub UnderAs : IndexForm → Bool → ℕ → List FlatRow → Type 0
@@ -32,20 +32,17 @@ UnderAs f c i rs = elim c [ true ↦ Below f i rs | false ↦ rs ≡ [] ]
 
 module _ (f : IndexForm) where
   -- ---- the place of the documents, and a place that holds nothing
-  roots→ : (rs : List FlatRow) (i seen last : ℕ) → rows_run (judge f) (record { holds = 0; index = i; seen = seen; last = last }) rs ≡ true → Sort 1 rs
+  roots→ : (rs : List FlatRow) → rows_run (judge f) ground_level rs ≡ true → Sort 1 rs
   unfolding rows_run
-  roots→ [] i seen last e = sort_none
-  roots→ (r ∷ rs) i seen last e =
-      let (u, v) = and_split (eqb r.sort 1) (rows_run (judge f) (level_after (eqb r.sort 2) (record { holds = 0; index = i; seen = seen; last = last }) r.index) rs) e in
-      let s : r.sort ≡ 1 = eqb-true r.sort 1 u in
-      sort_more s (roots→ rs i 0 (suc r.index) (rw (ne_eqb r.sort 2 (λ z. omega arith)) at v))
+  roots→ [] e = sort_none
+  roots→ (r ∷ rs) e =
+      let (u, v) = and_split (eqb r.sort 1) (rows_run (judge f) ground_level rs) e in
+      sort_more (eqb-true r.sort 1 u) (roots→ rs v)
 
-  roots← : (rs : List FlatRow) (i seen last : ℕ) → Sort 1 rs → rows_run (judge f) (record { holds = 0; index = i; seen = seen; last = last }) rs ≡ true
+  roots← : (rs : List FlatRow) → Sort 1 rs → rows_run (judge f) ground_level rs ≡ true
   unfolding rows_run
-  roots← [] i seen last h = refl
-  roots← (r ∷ rs) i seen last h =
-      let s : r.sort ≡ 1 = sort_first h in
-      and_both (eq-eqb r.sort 1 s) (rw (ne_eqb r.sort 2 (λ z. omega arith)) (roots← rs i 0 (suc r.index) (sort_rest h)))
+  roots← [] h = refl
+  roots← (r ∷ rs) h = and_both (eq-eqb r.sort 1 (sort_first h)) (roots← rs (sort_rest h))
 
   -- ---- below an element
   module _ (i : ℕ) where
@@ -63,7 +60,7 @@ module _ (f : IndexForm) where
       past (r ∷ rs) last = rw known (by (eqb r.sort 2) refl (past rs (suc r.index)))
         where
           by : (c : Bool) → eqb r.sort 2 ≡ c → rows_run (judge f) (inside i 0 (suc r.index)) rs ≡ walks (f.kind i) (f.model i) (suc r.index) rs
-              → (row_may f c (inside i 0 last) r && rows_run (judge f) (level_after c (inside i 0 last) r.index) rs)
+              → (row_may f c (record { index = i; seen = 0; last = last }) r && rows_run (judge f) (level_after c (inside i 0 last) r.index) rs)
               ≡ (child_may (f.kind i) (f.model i) last r.sort r.index && walks (f.kind i) (f.model i) (suc r.index) rs)
           by true e h = rw (child_not (f.kind i) (f.model i) last r.sort r.index (eqb-true r.sort 2 e))
           by false e h = ap (λ (x : Bool). child_may (f.kind i) (f.model i) last r.sort r.index && x) h
@@ -83,7 +80,7 @@ module _ (f : IndexForm) where
           record { front = []; back = []; split = refl; taken = u; walked = v }
       parted→ (r ∷ rs) a h = by (eqb r.sort 2) refl (rw known at h) (λ g. parted→ rs (suc r.index) g)
         where
-          by : (c : Bool) → eqb r.sort 2 ≡ c → (row_may f c (inside i (suc a) 0) r && rows_run (judge f) (level_after c (inside i (suc a) 0) r.index) rs) ≡ true
+          by : (c : Bool) → eqb r.sort 2 ≡ c → (row_may f c (record { index = i; seen = suc a; last = 0 }) r && rows_run (judge f) (level_after c (inside i (suc a) 0) r.index) rs) ≡ true
               → (rows_run (judge f) (inside i (suc (suc r.index)) 0) rs ≡ true → Parted (suc r.index) rs) → Parted a (r ∷ rs)
           by true e k more =
               let (m, g) = and_split (attribute_may f i (suc a) r) (rows_run (judge f) (inside i (suc (suc r.index)) 0) rs) k in
@@ -100,7 +97,7 @@ module _ (f : IndexForm) where
       parted← [] (r ∷ back) a t w = rw known (by (eqb r.sort 2) refl (and_split (child_may (f.kind i) (f.model i) 0 r.sort r.index) (walks (f.kind i) (f.model i) (suc r.index) back) w))
         where
           by : (c : Bool) → eqb r.sort 2 ≡ c → (child_may (f.kind i) (f.model i) 0 r.sort r.index ≡ true) × (walks (f.kind i) (f.model i) (suc r.index) back ≡ true)
-              → (row_may f c (inside i (suc a) 0) r && rows_run (judge f) (level_after c (inside i (suc a) 0) r.index) back) ≡ true
+              → (row_may f c (record { index = i; seen = suc a; last = 0 }) r && rows_run (judge f) (level_after c (inside i (suc a) 0) r.index) back) ≡ true
           by true e (u, v) = absurd (false≢true (sym (child_not (f.kind i) (f.model i) 0 r.sort r.index (eqb-true r.sort 2 e)) ∙ u))
           by false e (u, v) = and_both (and_both t u) (past back (suc r.index) ∙ v)
       parted← (r ∷ front) back a (e, m, t) w = rw (known, eq-eqb r.sort 2 e) (and_both m (parted← front back (suc r.index) t w))
@@ -156,7 +153,7 @@ module _ (f : IndexForm) where
     documents_judged b xs l h g w = (
       λ e.
           let (t, p, q, r) = (accepted (judge f) ground_level b xs l h w).0 e in
-          record { docs = t; rows = p; roots = roots→ (heads t) 0 0 0 (rw g at q); everywhere = fine→ t r },
+          record { docs = t; rows = p; roots = roots→ (heads t) (rw g at q); everywhere = fine→ t r },
       λ d.
-          (accepted (judge f) ground_level b xs l h w).1 (d.docs, d.rows, (rw g (roots← (heads d.docs) 0 0 0 d.roots)), fine← d.docs d.everywhere),
+          (accepted (judge f) ground_level b xs l h w).1 (d.docs, d.rows, (rw g (roots← (heads d.docs) d.roots)), fine← d.docs d.everywhere),
     )

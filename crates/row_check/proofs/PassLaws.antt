@@ -1,26 +1,27 @@
 -- The loop of the steps: the walk over the rows that are left; and what the verdict says.
 use Prim.Native.Nat.{ℕ, zero, suc, ◌+◌, ◌*◌, ◌-◌, ◌≤◌, ◌<◌}
 use native.Mathlib.Omega.{arith}
-use mathlib.Core.Path.{◌≡◌, refl, ap, sym, ◌∙◌}
+use mathlib.Core.Path.{◌≡◌, refl, ap, ap₂, sym, ◌∙◌}
 use mathlib.Core.Logic.{◌↔◌}
 use mathlib.Core.Bool.{Bool, true, false, false≢true}
 use mathlib.Core.Option.{Option, none, some}
-use lib.ListN.{length, get_or, take, drop, replicate, length-drop, length-replicate}
-use lib.Seq.{get_or-take, get_or-drop}
+use lib.ListN.{length, get_or, take, drop, replicate, length-append, length-replicate}
+use lib.Seq.{length-take-le, take-take, get_or-take, get_or-drop, take-append_seam, drop-append_seam}
+use native.Mathlib.Nat.{mul-suc, mul-zero}
+use mathlib.Core.List.{◌++◌}
 use Rattle.rules.specs.Bytes.{Bytes, all}
 use Rattle.rules.specs.Layout.{row_size}
 use Rattle.rules.specs.Decode.{read_row}
 use Rattle.rules.specs.WellFormed.{is_there}
 use Rattle.rules.proofs.Words.{and_both, and_split}
 use Rattle.rules.proofs.BooleanLaws.{all_of, all_in}
-use Rattle.codec.proofs.Writers.{tail_seen}
-use Rattle.layout.proofs.LayoutLaws.{room_rest}
+use Rattle.records.proofs.RecordLaws.{drop_take}
 use Rattle.records.specs.Records.{serial_fits}
 use Rattle.form_index.specs.Indices.{Documents}
 use Rattle.next_row.specs.Judge.{ground_level, judge}
 use Rattle.row_state.specs.State.{StateFits, start_state, stepped}
 use Rattle.open_levels.specs.Open.{end}
-use Rattle.row_step.specs.Steps.{Before, element_fits, may_step, walk, state_ends, StepMade}
+use Rattle.row_step.specs.Steps.{Before, element_fits, row_step, walk, state_ends, StepMade}
 use Rattle.row_check.specs.Machine.{machine}
 use Rattle.row_check.specs.Verdict.{rows_read, fields_fit, answer_from, verdict, SoundForm, RowsConform}
 use Rattle.row_check.specs.Walking.{WalkMade}
@@ -30,50 +31,89 @@ use Rattle.row_check.proofs.DepthLaws.{elements_fit}
 use Rattle.row_check.proofs.WalkLaws.{walk_none, no_levels, levels_many, levels_ground, ranges_fit, verdict_judged}
 
 -- ---- the loop of the steps
--- the walk over the rows that are left, from the state reached, is the whole walk; and there is room for these rows
+-- the walk over the m rows that are left, from the state reached, is the whole walk; and the bytes left are those rows
 pub record StepsLeft (b : Before) (goal : Option Bytes) (s t : Bytes) (m : ℕ) : Type 0 where
   pub is : goal ≡ walk b m t (some s)
   pub fits : StateFits s
-  pub room : row_size b.width * m ≤ length t
+  pub exact : length t ≡ row_size b.width * m
+
+-- a walk reads the bytes of its rows, and none after them
+walk_within : (b : Before) (count : ℕ) (rows : Bytes) (o : Option Bytes) → walk b count (take (row_size b.width * count) rows) o ≡ walk b count rows o
+unfolding walk
+walk_within b zero rows o = refl
+walk_within b (suc count) rows o =
+    let more : row_size b.width * suc count ≡ row_size b.width + row_size b.width * count = omega (arith, mul-suc (row_size b.width) count) in
+    let first : take (row_size b.width) (take (row_size b.width * suc count) rows) ≡ take (row_size b.width) rows =
+    take-take (row_size b.width) (row_size b.width * suc count) rows (omega (arith, more)) in
+    let others : drop (row_size b.width) (take (row_size b.width * suc count) rows) ≡ take (row_size b.width * count) (drop (row_size b.width) rows) =
+    drop_take (row_size b.width) (row_size b.width * suc count) rows (omega (arith, more))
+    ∙ ap (λ (k : ℕ). take k (drop (row_size b.width) rows)) (omega (arith, more)) in
+    ap₂ (λ (u v : Bytes). walk b count u (elim o as (λ x. Option Bytes) [ some s ↦ row_step b s v | none ↦ none ])) others first
+    ∙ walk_within b count (drop (row_size b.width) rows) _
+
+-- at first: all rows
+pub steps_start : (b : Before) (s t rows : Bytes) (count size : ℕ) → StateFits s → row_size b.width * count ≤ length rows → size ≡ row_size b.width → t ≡ take (size * count) rows
+    → StepsLeft b (walk b count rows (some s)) s t (count - 0)
+steps_start b s t rows count size fits room z e =
+    let cut : t ≡ take (row_size b.width * count) rows = e ∙ ap (λ (k : ℕ). take (k * count) rows) z in
+    let all : count - 0 ≡ count = omega arith in
+    rw (all, cut)
+    (record {
+      is = sym (walk_within b count rows (some s));
+      fits = fits;
+      exact = length-take-le (row_size b.width * count) rows room;
+    })
 
 module _ (b : Before) (goal : Option Bytes) (s t : Bytes) (m : ℕ) (p : StepsLeft b goal s t m) where
   -- no row is left
-  pub steps_end : m ≤ 0 → goal ≡ some s
+  pub steps_end : length t < row_size b.width → goal ≡ some s
   unfolding walk
-  steps_end h = let z : m ≡ 0 = omega arith in p.is ∙ ap (λ (k : ℕ). walk b k t (some s)) z
+  steps_end h = by m refl
+    where
+      by : (k : ℕ) → m ≡ k → goal ≡ some s
+      by zero e = p.is ∙ ap (λ (k : ℕ). walk b k t (some s)) e
+      by (suc k) e = absurd (omega (arith, p.exact, ap (λ (x : ℕ). row_size b.width * x) e, mul-suc (row_size b.width) k))
 
-  module _ (h : 0 < m) (size : ℕ) (z : size ≡ row_size b.width) {c : Bool} {s' : Bytes} (made : StepMade b s (take size t) c s') where
+  module _ (x t' : Bytes) (split : t ≡ x ++ t') (sized : length x ≡ row_size b.width) {c : Bool} {s' : Bytes} (made : StepMade b s x c s') where
+    first_row : take (row_size b.width) t ≡ x
+    first_row = ap₂ take (sym sized) split ∙ take-append_seam x t'
+
+    others : drop (row_size b.width) t ≡ t'
+    others = ap₂ drop (sym sized) split ∙ drop-append_seam x t'
+
     abbrev from_first : Bool → Option Bytes
-    from_first c = elim c as (λ x. Option Bytes) [ true ↦ some (stepped s (read_row (take (row_size b.width) t))) | false ↦ none ]
+    from_first c = elim c as (λ x. Option Bytes) [ true ↦ some (stepped s (read_row x)) | false ↦ none ]
 
     -- the first row, and the rows after it
-    first : goal ≡ walk b (m - 1) (drop (row_size b.width) t) (from_first c)
+    first : (k : ℕ) → m ≡ suc k → goal ≡ walk b k t' (from_first c)
     unfolding walk
-    first =
-        let one : m ≡ suc (m - 1) = omega arith in
-        let answer : may_step b s (take (row_size b.width) t) ≡ c = ap (λ (k : ℕ). may_step b s (take k t)) (sym z) ∙ sym made.is in
+    first k e =
         p.is
-        ∙ ap (λ (k : ℕ). walk b k t (some s)) one
-        ∙ ap (λ (x : Bool). walk b (m - 1) (drop (row_size b.width) t) (from_first x)) answer
+        ∙ ap (λ (j : ℕ). walk b j t (some s)) e
+        ∙ ap₂ (λ (u v : Bytes). walk b k u (row_step b s v)) others first_row
+        ∙ ap (λ (z : Bool). walk b k t' (from_first z)) (sym made.is)
 
     pub steps_refused : c ≡ false → goal ≡ none
-    steps_refused q =
-        first
-        ∙ ap (λ (x : Bool). walk b (m - 1) (drop (row_size b.width) t) (from_first x)) q
-        ∙ walk_none b (m - 1) (drop (row_size b.width) t)
+    unfolding walk
+    steps_refused q = by m refl
+      where
+        by : (k : ℕ) → m ≡ k → goal ≡ none
+        by zero e = absurd (omega (arith, p.exact, ap (λ (x : ℕ). row_size b.width * x) e, mul-zero (row_size b.width), ap length split, length-append x t', sized))
+        by (suc k) e = first k e ∙ ap (λ (z : Bool). walk b k t' (from_first z)) q ∙ walk_none b k t'
 
-    pub steps_on : c ≡ true → StepsLeft b goal s' (take (length t - size) (drop size t)) (m - 1)
-    steps_on q =
-        let state : stepped s (read_row (take (row_size b.width) t)) ≡ s' = ap (λ (k : ℕ). stepped s (read_row (take k t))) (sym z) ∙ sym (made.state q) in
-        rw (z, tail_seen t (row_size b.width))
-        (record {
-          is =
-              first
-              ∙ ap (λ (x : Bool). walk b (m - 1) (drop (row_size b.width) t) (from_first x)) q
-              ∙ ap (λ (x : Bytes). walk b (m - 1) (drop (row_size b.width) t) (some x)) state;
-          fits = made.fits;
-          room = simp length-drop (room_rest (row_size b.width) m (length t) (λ e. omega arith) p.room);
-        })
+    pub steps_on : c ≡ true → StepsLeft b goal s' t' (m - 1)
+    steps_on q = by m refl
+      where
+        by : (k : ℕ) → m ≡ k → StepsLeft b goal s' t' (m - 1)
+        by zero e = absurd (omega (arith, p.exact, ap (λ (x : ℕ). row_size b.width * x) e, mul-zero (row_size b.width), ap length split, length-append x t', sized))
+        by (suc k) e =
+            let less : m - 1 ≡ k = omega arith in
+            rw less
+            (record {
+              is = first k e ∙ ap (λ (z : Bool). walk b k t' (from_first z)) q ∙ ap (λ (u : Bytes). walk b k t' (some u)) (sym (made.state q));
+              fits = made.fits;
+              exact = omega (arith, p.exact, ap (λ (x : ℕ). row_size b.width * x) e, mul-suc (row_size b.width) k, ap length split, length-append x t', sized);
+            })
 
 -- ---- what the walk leaves
 module _ (b : Before) (s : Bytes) (count : ℕ) (rows : Bytes) {s' : Bytes} (f : StateFits s') where

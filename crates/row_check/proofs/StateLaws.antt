@@ -9,7 +9,7 @@ use mathlib.Core.List.{List}
 use lib.Dec.{eqb, leb, ltb}
 use lib.ListN.{length, get_or, set, length-set}
 use lib.Seq.{get_or-set_same, get_or-set_other}
-use borrow.Author.Tests.{le-leb, lt-leb, lt-ltb, le-ltb, ltb-true, leb-true, leb-false, eq-eqb, ne_eqb, eqb-true, eqb-false}
+use borrow.Author.Tests.{lt-ltb, le-ltb, ltb-true, leb-true, leb-false, eq-eqb, ne_eqb, eqb-true, eqb-false}
 use Rattle.rules.specs.Bytes.{Bytes}
 use Rattle.rules.specs.Preorder.{Deep}
 use Rattle.rules.specs.Layout.{FlatRow}
@@ -17,6 +17,7 @@ use Rattle.form_index.specs.Indices.{IndexForm}
 use Rattle.form_table.specs.Every.{every}
 use Rattle.form_table.proofs.Numbers.{every_same, every_step, Side, below, at, above, side}
 use Rattle.next_row.specs.declared.Level.{Level}
+use Rattle.next_row.specs.declared.Level.TheVariants.{Element}
 use Rattle.next_row.specs.Judge.{may, ends, level_after, entered, ground_level, judge}
 use Rattle.row_state.specs.State.{open_elements, StateFits, seen_at, level_at, with_attribute, with_child, with_text, with_element, stepped, RoomFor}
 use Rattle.open_levels.specs.Open.{open_end}
@@ -34,19 +35,19 @@ no_level = entered false 0
 pub record StandsFor (s : Bytes) (l : List Level) (n : ℕ) : Type 0 where
   pub fits : StateFits s
   pub many : length l ≡ 257
-  pub ground : (get_or l 0 ground_level).holds ≡ 0
+  pub ground : get_or l 0 ground_level ≡ ground_level
   pub inside : (k : ℕ) → suc k ≤ open_elements s → get_or l (suc k) ground_level ≡ level_at s (suc k)
   pub live : (n ≡ suc (open_elements s)) ⊎ ((n ≡ suc (suc (open_elements s))) × (get_or l (suc (open_elements s)) ground_level ≡ no_level))
 
 -- ---- the tests of a row
 module _ (f : IndexForm) {s : Bytes} {l : List Level} {n : ℕ} (p : StandsFor s l n) where
   ends_alike : (k : ℕ) → k ≤ open_elements s → (judge f).ends (get_or l k ground_level) ≡ (judge f).ends (level_at s k)
-  ends_alike zero h = ap (λ (x : ℕ). ends f x (get_or l 0 ground_level)) p.ground
-  ends_alike (suc k) h = ap (λ (x : Level). ends f x.holds x) (p.inside k h)
+  ends_alike zero h = ap (ends f) p.ground
+  ends_alike (suc k) h = ap (ends f) (p.inside k h)
 
   may_alike : (r : FlatRow) (k : ℕ) → k ≤ open_elements s → (judge f).may (get_or l k ground_level) r ≡ (judge f).may (level_at s k) r
-  may_alike r zero h = ap (λ (x : ℕ). may f x (get_or l 0 ground_level) r) p.ground
-  may_alike r (suc k) h = ap (λ (x : Level). may f x.holds x r) (p.inside k h)
+  may_alike r zero h = ap (λ (x : Level). may f x r) p.ground
+  may_alike r (suc k) h = ap (λ (x : Level). may f x r) (p.inside k h)
 
   abbrev of_levels : ℕ → Bool
   of_levels k = (judge f).ends (get_or l k ground_level)
@@ -71,7 +72,7 @@ module _ (f : IndexForm) {s : Bytes} {l : List Level} {n : ℕ} (p : StandsFor s
           ap (λ (m : ℕ). every of_levels m a) e
           ∙ every_step of_levels a (suc (suc (open_elements s))) (omega arith)
           ∙ ap (λ (m : ℕ). of_levels m && every of_levels m a) one
-          ∙ ap (λ (x : Level). ends f x.holds x && every of_levels (suc (open_elements s)) a) q
+          ∙ ap (λ (x : Level). ends f x && every of_levels (suc (open_elements s)) a) q
           ∙ same
 
   abbrev of_machine : Deep FlatRow → Bool
@@ -102,7 +103,7 @@ module _ (f : IndexForm) {s : Bytes} {l : List Level} {n : ℕ} (p : StandsFor s
           at_leaf true z =
               let d : x.depth ≡ suc (open_elements s) = omega (arith, ltb-true x.depth n z) in
               let level : get_or l x.depth ground_level ≡ no_level = ap (λ (k : ℕ). get_or l k ground_level) d ∙ q in
-              ap (λ (y : Level). ltb x.depth n && (levels_end (judge f) ground_level l n (suc x.depth) && may f y.holds y x.row)) level
+              ap (λ (y : Level). ltb x.depth n && (levels_end (judge f) ground_level l n (suc x.depth) && may f y x.row)) level
               ∙ none_comes (ltb x.depth n) (levels_end (judge f) ground_level l n (suc x.depth))
 
       by : (b : Bool) → leb x.depth (open_elements s) ≡ b → of_machine x ≡ comes_next f s x
@@ -128,8 +129,8 @@ module _ (t : Bytes) (v k : ℕ) (long : length t ≡ 130) where
 
 -- a level by its bytes
 level_by : (s : Bytes) (k : ℕ) {i v t : ℕ} → get_or s (2 * suc k) 0 ≡ i → seen_at s (suc k) ≡ v → get_or s (2 * suc k + 1) 0 ≡ t
-    → level_at s (suc k) ≡ record { holds = 1; index = i; seen = v; last = t }
-level_by s k a b c = λ j. record { holds = 1; index = a j; seen = b j; last = c j }
+    → level_at s (suc k) ≡ Element (record { index = i; seen = v; last = t })
+level_by s k a b c = λ j. Element (record { index = a j; seen = b j; last = c j })
 
 -- the innermost element has the attributes of the state, any other none
 seen_of : (s : Bytes) (k : ℕ) {o v : ℕ} → open_elements s ≡ o → k ≡ o → get_or s 1 0 ≡ v → seen_at s k ≡ v
@@ -159,22 +160,17 @@ module _ (f : IndexForm) {s : Bytes} {l : List Level} {n : ℕ} (p : StandsFor s
       ∙ p.inside k (omega arith)
       ∙ sym (level_by t k a (seen_none t (suc k) e (omega arith) ∙ sym (seen_none s (suc k) refl (omega arith))) b)
 
-  -- the ground holds documents still
-  ground_after : (get_or after 0 ground_level).holds ≡ 0
-  ground_after = by (d) refl
+  -- the ground is the place of the documents still
+  ground_after : get_or after 0 ground_level ≡ ground_level
+  ground_after = by d refl
     where
-      by : (k : ℕ) → d ≡ k → (get_or after 0 ground_level).holds ≡ 0
+      by : (k : ℕ) → d ≡ k → get_or after 0 ground_level ≡ ground_level
       by zero e =
-          ap (λ (k : ℕ). (get_or after k ground_level).holds) (sym e)
-          ∙ ap (λ (y : Level). y.holds) (at_row (judge f) ground_level 256 x l p.many deep)
-          ∙ kept (eqb x.row.sort 2)
-          ∙ ap (λ (k : ℕ). (get_or l k ground_level).holds) e
-          ∙ p.ground
-        where
-          kept : (b : Bool) → (level_after b (get_or l d ground_level) x.row.index).holds ≡ (get_or l d ground_level).holds
-          kept true = refl
-          kept false = refl
-      by (suc k) e = ap (λ (y : Level). y.holds) (at_below (judge f) ground_level 256 x l p.many deep 0 (omega arith)) ∙ p.ground
+          ap (λ (k : ℕ). get_or after k ground_level) (sym e)
+          ∙ at_row (judge f) ground_level 256 x l p.many deep
+          ∙ ap (λ (k : ℕ). level_after (eqb x.row.sort 2) (get_or l k ground_level) x.row.index) e
+          ∙ ap (λ (y : Level). level_after (eqb x.row.sort 2) y x.row.index) p.ground
+      by (suc k) e = at_below (judge f) ground_level 256 x l p.many deep 0 (omega arith) ∙ p.ground
 
   -- the row's own level
   own : (b : Bool) → eqb x.row.sort 2 ≡ b → (k : ℕ) → suc k ≡ d → get_or after (suc k) ground_level ≡ level_after b (level_at s (suc k)) x.row.index

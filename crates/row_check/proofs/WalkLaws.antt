@@ -66,7 +66,7 @@ start_stands =
     record {
       fits = record { long = length-replicate {A = ℕ} 130 0; low = omega arith };
       many = levels_many;
-      ground = ap (λ (l : Level). l.holds) levels_ground;
+      ground = levels_ground;
       inside = λ k h. absurd (omega arith);
       live = inl refl;
     }

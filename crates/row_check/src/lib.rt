@@ -6,42 +6,27 @@ ghost use Rattle.std.specs.Prelude.{◌≡◌, ◌*◌, ◌≤◌, length};
 ghost use Rattle.rules.specs.Layout.{row_size};
 ghost use Rattle.layout.specs.Bodies.{width_of};
 ghost use Rattle.form_index.specs.Reading.{by_index};
-ghost use Rattle.form_table.specs.Table.{TabledForm, TableOf};
+ghost use Rattle.form_table.specs.Table.{TableOf};
 ghost use Rattle.row_state.specs.State.{open_elements, StateFits};
 ghost use Rattle.open_levels.specs.Open.{end};
 ghost use Rattle.row_step.specs.Steps.{before_by};
 ghost use Rattle.row_check.specs.Verdict.{answer_from, verdict};
 ghost use Rattle.row_check.specs.Walking.{before_with, FewIn, WalkMade};
 
-use layout::Shape;
+use form_table::FormTable;
 use row_state::STATE;
 
 // The steps of `count` rows. Nothing else calls `row_step::step`, so that it is compiled into this loop, for the check
 // and for the reading of a text.
-fn steps(
-    s: Shape,
-    next: usize,
-    defs: &[u8],
-    parts: &[u8],
-    attrs: &[u8],
-    table: &[u64],
-    state: &mut [u8; STATE],
-    rows: &[u8],
-    count: usize,
-) -> bool
-    requires { TabledForm s defs.now parts.now attrs.now table.now × StateFits state.old × (row_size s.width * count ≤ length rows.now) }
-    ensures { WalkMade (before_by s next defs.now parts.now attrs.now) state.old count rows.now result state.new }
+fn steps(t: &FormTable<'_>, next: usize, state: &mut [u8; STATE], rows: &[u8], count: usize) -> bool
+    requires { StateFits state.old × (row_size t.now.form.width * count ≤ length rows.now) }
+    ensures { WalkMade (before_by next t.now.form) state.old count rows.now result state.new }
 {
-    let size = layout::row_size(s.width);
-    let mut t = rows;
-    let mut m = count;
-    while 0 < m {
-        let row = &t[..size];
-        if !row_step::step(s, next, defs, parts, attrs, table, state, row) {
+    let size = layout::row_size(t.form.width);
+    for row in rows[..size * count].chunks_exact(size) {
+        if !row_step::step(t, next, state, row) {
             return false;
         }
-        t = &t[size..];
-        m -= 1;
     }
     true
 }
@@ -53,13 +38,7 @@ pub fn lay_table(before: &[u8], table: &mut [u64])
     requires { FewIn before.now × (4352 ≤ length table.old) }
     ensures { TableOf before.now table.new }
 {
-    let s = layout::shape_of(before);
-    let defs = layout::definition_body(before, s);
-    let parts = layout::particle_body(before, s);
-    let attrs = layout::attribute_body(before, s);
-    let version = s.version as usize;
-    let n = s.definitions;
-    form_table::fill_table(version, s.width, n, defs, parts, s.attributes, attrs, table);
+    form_table::fill_table(&layout::form_of(before), table);
 }
 
 /// The walk over `count` rows from a state on, with a next serial: whether each row may come, and the state after them.
@@ -74,11 +53,11 @@ pub fn walk_rows(
     requires { FewIn before.now × TableOf before.now table.now × StateFits state.old × (row_size (width_of before.now) * count ≤ length rows.now) }
     ensures { WalkMade (before_with next before.now) state.old count rows.now result state.new }
 {
-    let s = layout::shape_of(before);
-    let defs = layout::definition_body(before, s);
-    let parts = layout::particle_body(before, s);
-    let attrs = layout::attribute_body(before, s);
-    steps(s, next, defs, parts, attrs, table, state, rows, count)
+    let t = FormTable {
+        form: layout::form_of(before),
+        sets: table,
+    };
+    steps(&t, next, state, rows, count)
 }
 
 /// Whether the rows may end after a state.
@@ -86,11 +65,11 @@ pub fn walk_ends(before: &[u8], table: &[u64], state: &[u8; STATE]) -> bool
     requires { FewIn before.now × TableOf before.now table.now × (open_elements state.now ≤ 64) }
     ensures { result ≡ end (by_index before.now) state.now }
 {
-    let s = layout::shape_of(before);
-    let defs = layout::definition_body(before, s);
-    let parts = layout::particle_body(before, s);
-    let attrs = layout::attribute_body(before, s);
-    open_levels::end(s, defs, parts, attrs, table, state)
+    let t = FormTable {
+        form: layout::form_of(before),
+        sets: table,
+    };
+    open_levels::end(&t, state)
 }
 
 /// The walk's answer from a state on: whether the `count` rows left may come, and end.

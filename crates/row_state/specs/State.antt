@@ -4,6 +4,7 @@ use Rattle.rules.specs.Bytes.{Bytes}
 use Rattle.rules.specs.Preorder.{Deep}
 use Rattle.rules.specs.Layout.{FlatRow}
 use Rattle.next_row.specs.declared.Level.{Level}
+use Rattle.next_row.specs.declared.Level.TheVariants.{Element}
 use Rattle.next_row.specs.Judge.{ground_level}
 
 -- ---- THE STATE between two rows: 130 bytes
@@ -28,7 +29,7 @@ seen_at s k = elim (eqb k (open_elements s)) [ true ↦ get_or s 1 0 | false ↦
 -- the place of the rows of depth k: the documents, or the rows below the k-th open element
 abbrev pub level_at : Bytes → ℕ → Level
 level_at s zero = ground_level
-level_at s (suc k) = record { holds = 1; index = get_or s (2 * suc k) 0; seen = seen_at s (suc k); last = get_or s (2 * suc k + 1) 0 }
+level_at s (suc k) = Element (record { index = get_or s (2 * suc k) 0; seen = seen_at s (suc k); last = get_or s (2 * suc k + 1) 0 })
 
 -- ---- after a row
 -- the state after a row of depth d and index i: it closes the elements deeper than itself

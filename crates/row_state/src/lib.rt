@@ -5,7 +5,7 @@ ghost use Rattle.std.specs.Prelude.{◌≡◌, ◌<◌, ◌≤◌, length};
 ghost use Rattle.rules.specs.Decode.{read_row};
 ghost use Rattle.row_state.specs.State.{seen_at, level_at, with_attribute, with_text, with_element, stepped, RoomFor};
 
-use next_row::Level;
+use next_row::{Level, OpenElement};
 
 /// The bytes of the state; `specs/State.antt` says what stands where.
 pub const STATE: usize = 130;
@@ -31,22 +31,13 @@ pub fn level_at(state: &[u8; STATE], k: usize) -> Level
     ensures { result ≡ level_at state.now k }
 {
     if k == 0 {
-        return Level {
-            holds: 0,
-            index: 0,
-            seen: 0,
-            last: 0,
-        };
+        return Level::Documents;
     }
-    let seen = seen_at(state, k);
-    let index = state[2 * k];
-    let last = state[2 * k + 1];
-    Level {
-        holds: 1,
-        index: index,
-        seen: seen,
-        last: last,
-    }
+    Level::Element(OpenElement {
+        index: state[2 * k],
+        seen: seen_at(state, k),
+        last: state[2 * k + 1],
+    })
 }
 
 // ---- set

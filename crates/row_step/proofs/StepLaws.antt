@@ -1,18 +1,18 @@
 -- The tests of a step in the code's order, and what each of them says of it; the rows for which the state has room.
 use Prim.Native.Nat.{ℕ, zero, suc, ◌+◌, ◌≤◌, ◌<◌}
 use native.Mathlib.Omega.{arith}
-use mathlib.Core.Path.{◌≡◌, refl, ap, ap₂, sym, ◌∙◌}
+use mathlib.Core.Path.{◌≡◌, refl, ap, sym, ◌∙◌}
 use mathlib.Core.Bool.{Bool, true, false, ◌&&◌, false≢true}
 use lib.Dec.{eqb, leb, ltb}
-use borrow.Author.Tests.{le-leb, lt-leb, lt-ltb, le-ltb, ltb-true, eq-eqb, ne_eqb, eqb-true, eqb-false}
+use borrow.Author.Tests.{le-leb, lt-leb, ltb-true, eq-eqb, eqb-true, eqb-false}
 use Rattle.rules.specs.Bytes.{Bytes}
-use Rattle.rules.specs.Preorder.{Deep}
 use Rattle.rules.specs.Layout.{FlatRow}
 use Rattle.rules.specs.Decode.{read_row}
 use Rattle.rules.proofs.Words.{and_split}
 use Rattle.records.specs.Records.{row_fits, serial_fits}
 use Rattle.records.proofs.RecordLaws.{row_parts}
 use Rattle.next_row.specs.declared.Level.{Level}
+use Rattle.next_row.specs.declared.Level.TheVariants.{Documents, Element, Nothing}
 use Rattle.form_index.specs.Indices.{IndexForm}
 use Rattle.next_row.specs.Judge.{attribute_may, row_may, may, judge}
 use Rattle.row_state.specs.State.{open_elements, StateFits, level_at, stepped, RoomFor}
@@ -23,7 +23,7 @@ use Rattle.row_step.specs.Steps.{Before, element_fits, may_step, StepMade}
 -- ---- a row for which the state has room
 -- a row that may come at a level has an index below 64: an element's definition and an attribute are in their tables,
 -- and a text has index 0
-module _ (f : IndexForm) (l : Level) (r : FlatRow) where
+module _ (f : IndexForm) (r : FlatRow) where
   attribute_in_lem : (i seen : ℕ) → attribute_may f i seen r ≡ true → r.index < f.attributes
   attribute_in_lem i zero e = absurd (false≢true e)
   attribute_in_lem i (suc a) e =
@@ -31,12 +31,12 @@ module _ (f : IndexForm) (l : Level) (r : FlatRow) where
       let (known, e₂) = and_split (ltb r.index f.attributes) _ e₁ in
       ltb-true r.index f.attributes known
 
-  attribute_low : (holds : ℕ) → r.sort ≡ 2 → may f holds l r ≡ true → r.index < f.attributes
-  attribute_low zero q e = absurd (omega (arith, eqb-true r.sort 1 e))
-  attribute_low (suc zero) q e =
+  attribute_low : (l : Level) → r.sort ≡ 2 → may f l r ≡ true → r.index < f.attributes
+  attribute_low Documents q e = absurd (omega (arith, eqb-true r.sort 1 e))
+  attribute_low (Element l) q e =
       let (known, e₁) = and_split (ltb l.index f.size) (row_may f (eqb r.sort 2) l r) e in
       attribute_in_lem l.index l.seen (rw (eq-eqb r.sort 2 q) at e₁)
-  attribute_low (suc (suc h)) q e = absurd (false≢true e)
+  attribute_low Nothing q e = absurd (false≢true e)
 
 pub room_for : (w : ℕ) (f : IndexForm) (l : Level) (row : Bytes) → f.size ≤ 64 → f.attributes ≤ 64 → (read_row row).depth ≤ 64
     → row_fits w row ≡ true → element_fits f.size (read_row row) ≡ true → (judge f).may l (read_row row).row ≡ true → RoomFor (read_row row)
@@ -55,7 +55,7 @@ room_for w f l row few some low fits element comes = by (eqb (read_row row).row.
         }
     by false e true q =
         record {
-          index = omega (arith, attribute_low f l (read_row row).row l.holds (eqb-true (read_row row).row.sort 2 q) comes);
+          index = omega (arith, attribute_low f (read_row row).row l (eqb-true (read_row row).row.sort 2 q) comes);
           depth = low;
           element = λ z. absurd (eqb-false (read_row row).row.sort 1 e z);
         }
@@ -67,37 +67,6 @@ room_for w f l row few some low fits element comes = by (eqb (read_row row).row.
           depth = low;
           element = λ z. absurd (eqb-false (read_row row).row.sort 1 e z);
         }
-
--- ---- the serial of a row, and the depth and definition of an element
-none_under : (least most element : Bool) → most ≡ false → false ≡ ((least && most) && element)
-none_under true most element e = rw e
-none_under false most element e = refl
-
-module _ (n next : ℕ) (row : Bytes) {serial : ℕ} (e : serial ≡ (read_row row).row.serial) where
-  abbrev Ranges : Bool → Type 0
-  Ranges b = b ≡ (serial_fits next (read_row row).row.serial && element_fits n (read_row row))
-
-  -- no serial, or none below the next one
-  pub ranges_none : serial < 1 → Ranges false
-  ranges_none h = rw (sym e, lt-leb 1 serial h)
-
-  pub ranges_over : next ≤ serial → Ranges false
-  ranges_over h = none_under (leb 1 (read_row row).row.serial) (ltb (read_row row).row.serial next) (element_fits n (read_row row)) (le-ltb (read_row row).row.serial next (omega arith))
-
-  module _ (least : 1 ≤ serial) (most : serial < next) {sort : ℕ} (es : sort ≡ (read_row row).row.sort) where
-    in_range_lem : {b : Bool} → b ≡ element_fits n (read_row row) → Ranges b
-    in_range_lem q = q ∙ rw (sym e, le-leb 1 serial least, lt-ltb serial next most)
-
-    -- no element's
-    pub ranges_other : (sort ≡ 1 → ⊥) → Ranges true
-    ranges_other m = in_range_lem (rw (ne_eqb (read_row row).row.sort 1 (λ z. m (es ∙ z)), element_fits))
-
-    -- an element's
-    pub ranges_element : sort ≡ 1 → {d i : ℕ} → d ≡ (read_row row).depth → i ≡ (read_row row).row.index → Ranges (ltb d 64 && ltb i n)
-    ranges_element h ed ei = in_range_lem (ap₂ (λ (x y : ℕ). ltb x 64 && ltb y n) ed ei ∙ by)
-      where
-        by : (ltb (read_row row).depth 64 && ltb (read_row row).row.index n) ≡ element_fits n (read_row row)
-        by = rw (eq-eqb (read_row row).row.sort 1 (sym es ∙ h), element_fits)
 
 -- ---- the tests
 none_deep : (fits ranged deep closes may : Bool) → deep ≡ false → false ≡ (fits && (ranged && (deep && (closes && may))))

@@ -7,9 +7,9 @@ use Rattle.rules.specs.Preorder.{Deep}
 use Rattle.rules.specs.Layout.{row_size, FlatRow}
 use Rattle.rules.specs.Decode.{read_row}
 use Rattle.records.specs.Records.{row_fits, serial_fits}
-use Rattle.layout.specs.declared.Shape.{Shape}
+use Rattle.layout.specs.declared.Form.{Form}
 use Rattle.form_index.specs.Indices.{IndexForm}
-use Rattle.form_index.specs.Reading.{form_by}
+use Rattle.form_index.specs.Reading.{index_form_of}
 use Rattle.next_row.specs.Judge.{judge}
 use Rattle.row_state.specs.State.{open_elements, StateFits, level_at, stepped}
 use Rattle.open_levels.specs.Open.{open_end, end}
@@ -20,9 +20,9 @@ pub record Before : Type 0 where
   pub next : ℕ
   pub form : IndexForm
 
--- .. where the bodies of the form are cut out
-abbrev pub before_by : Shape → ℕ → Bytes → Bytes → Bytes → Before
-before_by s next defs parts attrs = record { width = s.width; next = next; form = form_by s defs parts attrs }
+-- .. where the form is lent
+abbrev pub before_by : ℕ → Form → Before
+before_by next f = record { width = f.width; next = next; form = index_form_of f }
 
 -- ---- THE STEP
 -- an element's definition is one of `size`, and fewer than 64 elements stand around it: no more can where no definition

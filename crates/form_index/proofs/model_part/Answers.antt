@@ -2,7 +2,6 @@
 -- long as its own is `model_part` (`model_read` of ReadingLaws).
 use mathlib.Core.Path.{◌∙◌}
 use Rattle.form_index.proofs.ReadingLaws.{model_read}
-use borrow.Author.Rules.{rules}
 use Rattle.form_index.proofs.model_part.Goals as goal
 
 pub returns : goal.returns

@@ -6,7 +6,6 @@ use mathlib.Core.Bool.{not}
 use native.Mathlib.Omega.{arith}
 use Rattle.form_index.proofs.ReadingLaws.{needs_read}
 use Rattle.form_table.proofs.TableLaws.{need_other, need_past, need_put}
-use borrow.Author.Rules.{rules}
 use Rattle.form_table.proofs.lay_need.Goals as goal
 
 pub returns-then-not-must_be_present : goal.returns-then-not-must_be_present
@@ -16,18 +15,18 @@ returns-then-not-must_be_present c =
     let owner = c.attribute_owner-i in
     let sort = c.attribute_sort in
     let present = c.must_be_present in
-    need_other a.version a.w a.n a.attrs.now a.j a.table.now owner.result present.result
-    (λ i. needs_read a.w _ a.attrs.now a.j found a.version i _ _ _ owner.ensures sort.ensures present.ensures) (ap not c.if-not-must_be_present.true)
+    need_other a.form.now a.j a.table.now owner.result present.result
+    (λ i. needs_read a.form.now.width _ a.form.now.attributes.now a.j found a.form.now.version i _ _ _ owner.ensures sort.ensures present.ensures) (ap not c.if-not-must_be_present.true)
 
-pub returns-then-i-n : goal.returns-then-i-n
-returns-then-i-n c =
+pub returns-then-i-form : goal.returns-then-i-form
+returns-then-i-form c =
     let a = c.args in
     let found = c.attribute_at-record.ensures in
     let owner = c.attribute_owner-i in
     let sort = c.attribute_sort in
     let present = c.must_be_present in
-    need_past a.version a.w a.n a.attrs.now a.j a.table.now owner.result present.result
-    (λ i. needs_read a.w _ a.attrs.now a.j found a.version i _ _ _ owner.ensures sort.ensures present.ensures) (omega arith)
+    need_past a.form.now a.j a.table.now owner.result present.result
+    (λ i. needs_read a.form.now.width _ a.form.now.attributes.now a.j found a.form.now.version i _ _ _ owner.ensures sort.ensures present.ensures) (omega arith)
 
 pub returns : goal.returns
 returns c =
@@ -36,6 +35,6 @@ returns c =
     let owner = c.attribute_owner-i in
     let sort = c.attribute_sort in
     let present = c.must_be_present in
-    need_put a.version a.w a.n a.attrs.now a.j a.table.now owner.result present.result
-    (λ i. needs_read a.w _ a.attrs.now a.j found a.version i _ _ _ owner.ensures sort.ensures present.ensures)
-    (ap not c.if-not-must_be_present.false) (omega arith) c.requires.1 c.requires.3 _ c.with.ensures
+    need_put a.form.now a.j a.table.now owner.result present.result
+    (λ i. needs_read a.form.now.width _ a.form.now.attributes.now a.j found a.form.now.version i _ _ _ owner.ensures sort.ensures present.ensures)
+    (ap not c.if-not-must_be_present.false) (omega arith) c.requires.0.definitions c.requires.2 _ c.with.ensures

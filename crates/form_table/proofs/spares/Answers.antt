@@ -1,7 +1,6 @@
 -- `form_table::spares` meets its contract: `sets::none_between` is true if and only if no number of the range is in the
 -- set, and so is `every` of the contract (`none_spares` of TableLaws).
 use Rattle.form_table.proofs.TableLaws.{none_spares}
-use borrow.Author.Rules.{rules}
 use Rattle.form_table.proofs.spares.Goals as goal
 
 pub returns : goal.returns

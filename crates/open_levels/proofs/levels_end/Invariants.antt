@@ -1,14 +1,11 @@
-use mathlib.Core.Path.{refl}
-use native.Mathlib.Omega.{arith}
-use borrow.Author.Tests.{not-true, not-false}
-use borrow.Author.Rules.{rules}
-use Rattle.form_index.specs.Reading.{form_by}
-use Rattle.open_levels.proofs.ClosingLaws.{Closing, closing_on, closing_no, closing_ends}
+use mathlib.Core.Path.{◌≡◌}
+use mathlib.Core.Bool.{true}
+use Rattle.form_index.specs.Reading.{index_form_of}
+use Rattle.form_table.specs.Every.{every}
+use Rattle.next_row.specs.Judge.{judge}
+use Rattle.row_state.specs.State.{level_at}
 use Rattle.open_levels.proofs.levels_end.Given as goal
 
--- of the levels from keep on those below k are left to be tested
+-- the levels from keep on below k are owed nothing
 abbrev pub invariant-loop-k : goal.invariant-loop-k
-invariant-loop-k l = Closing (form_by l.s l.defs l.parts l.attrs) l.state l.keep l.k
-
-abbrev pub decreases-loop-k : goal.decreases-loop-k
-decreases-loop-k l = l.k
+invariant-loop-k l = every (λ j. (judge (index_form_of l.t.form)).ends (level_at l.state j)) l.k l.keep ≡ true

@@ -1,20 +1,10 @@
 -- `row_check::answer_from` meets its contract: a walk that refuses gives the answer false (`answer_refused` of
 -- PassLaws), and after one that does not `walk_ends` gives it (`answer_ended`).
-use borrow.Author.Rules.{rules}
-use borrow.Author.Tests.{not-true, not-false}
 use Rattle.row_check.proofs.PassLaws.{answer_refused, answer_ended}
 use Rattle.row_check.proofs.answer_from.Goals as goal
 
-pub walk_rows-requires : goal.walk_rows-requires
-walk_rows-requires c =
-    (c.requires.0, c.lay_table.ensures, c.requires.1, c.requires.2)
-
 pub returns-then-not-walk_rows : goal.returns-then-not-walk_rows
 returns-then-not-walk_rows c = answer_refused c.walk_rows.ensures c.if-not-walk_rows.true
-
-pub walk_ends-requires : goal.walk_ends-requires
-walk_ends-requires c =
-    (c.requires.0, c.lay_table.ensures, c.walk_rows.ensures.fits.low)
 
 pub returns : goal.returns
 returns c =

@@ -1,69 +1,52 @@
--- `row_check::steps` meets its contract: a row that may not make its step ends the walk with none (`steps_refused` of
--- PassLaws), any other keeps the invariant (`steps_on`), and with no row left the state reached is that of the walk
--- (`steps_end`). Room for the rows left is room for the first (`room_first` of LayoutLaws in `layout`), so the slices
--- are in range.
+-- `row_check::steps` meets its contract: before the first row all are left (`steps_start` of PassLaws); a row that may
+-- not make its step ends the walk with none (`steps_refused`), any other keeps the invariant (`steps_on`), and with no
+-- row left the state reached is that of the walk (`steps_end`).
+use Prim.Native.Nat.{ℕ, ◌-◌, ◌<◌}
 use native.Mathlib.Omega.{arith}
-use mathlib.Core.Path.{◌≡◌, refl, sym}
+use mathlib.Core.Path.{◌≡◌, ap, subst, ◌∙◌}
 use mathlib.Core.Option.{some}
-use lib.ListN.{length}
-use lib.Seq.{length-take-le}
-use borrow.Author.Tests.{not-true, not-false}
-use borrow.Author.Rules.{rules}
-use Rattle.rules.specs.Layout.{row_size}
-use Rattle.layout.proofs.LayoutLaws.{room_first}
+use mathlib.Core.List.{[], ◌∷◌, ◌++◌}
+use lib.ListN.{length, length-append}
+use Rattle.std.specs.Slice.Iter.{chunks_exact_rest, chunks_exact_size}
 use Rattle.row_step.specs.Steps.{before_by, walk}
-use Rattle.row_check.proofs.PassLaws.{StepsLeft, steps_on, steps_refused, steps_end, made_none, made_all}
+use Rattle.row_check.proofs.PassLaws.{StepsLeft, steps_start, steps_on, steps_refused, steps_end, made_none, made_all}
 use Rattle.row_check.proofs.steps.Goals as goal
 
-pub row_size-size-requires : goal.row_size-size-requires
-row_size-size-requires c =
-    c.requires.0.width
-
-pub loop-m-init : goal.loop-m-init
-loop-m-init c =
-    (c.row_size-size.ensures, record { is = refl; fits = c.requires.1; room = c.requires.2 })
-
-pub slice_bounds-row-end : goal.slice_bounds-row-end
-slice_bounds-row-end c =
-    let at = c.loop-m in
-    let room = room_first (row_size c.args.s.width) at.m (length at.t.now) (λ e. omega arith) at.invariant.1.room in
-    sym (length-take-le _ at.t.now (omega (arith, room, at.invariant.0)))
-
-pub step-requires : goal.step-requires
-step-requires c =
-    (c.requires.0, c.loop-m.invariant.1.fits)
+pub loop-row-init : goal.loop-row-init
+loop-row-init c =
+    let a = c.args in
+    let before = before_by a.next a.t.now.form in
+    let items = c.chunks_exact-row-items.ensures in
+    let same = c.into_iter-row-iterator.ensures.into_iter_gives in (
+      ap chunks_exact_size same ∙ items.size ∙ c.row_size-size.ensures,
+      steps_start before a.state.now _ a.rows.now a.count _ c.requires.0 c.requires.1 c.row_size-size.ensures (ap chunks_exact_rest same ∙ items.rest),
+    )
 
 pub returns-then-not-step : goal.returns-then-not-step
 returns-then-not-step c =
     let a = c.args in
-    let before = before_by a.s a.next a.defs.now a.parts.now a.attrs.now in
-    let at = c.loop-m in
-    let made = c.step.ensures in
-    made_none before a.state.now a.count a.rows.now made.fits
-    (steps_refused before _ _ at.t.now at.m at.invariant.1 (omega arith) _ at.invariant.0 made c.if-not-step.true)
+    let before = before_by a.next a.t.now.form in
+    let at = c.loop-row in
+    let came = c.in-Some.ensures.steps.1 in
+    made_none before a.state.now a.count a.rows.now c.step.ensures.fits
+    (steps_refused before _ _ _ _ at.invariant.1 c.in-Some.row.now _ came.0 (came.1 ∙ at.invariant.0) c.step.ensures c.if-not-step.true)
 
-pub slice_bounds-t-count : goal.slice_bounds-t-count
-slice_bounds-t-count c =
-    let at = c.loop-m in
-    let room = room_first (row_size c.args.s.width) at.m (length at.t.now) (λ e. omega arith) at.invariant.1.room in
-    omega (arith, room, at.invariant.0)
-
-pub slice_bounds-t-start : goal.slice_bounds-t-start
-slice_bounds-t-start c =
-    let at = c.loop-m in
-    let room = room_first (row_size c.args.s.width) at.m (length at.t.now) (λ e. omega arith) at.invariant.1.room in
-    omega (arith, room, at.invariant.0)
-
-pub loop-m-preserved : goal.loop-m-preserved
-loop-m-preserved c =
+pub loop-row-preserved : goal.loop-row-preserved
+loop-row-preserved c =
     let a = c.args in
-    let before = before_by a.s a.next a.defs.now a.parts.now a.attrs.now in
-    let at = c.loop-m in
-    (at.invariant.0, steps_on before _ _ at.t.now at.m at.invariant.1 (omega arith) _ at.invariant.0 c.step.ensures c.if-not-step.false)
+    let before = before_by a.next a.t.now.form in
+    let at = c.loop-row in
+    let came = c.in-Some.ensures.steps.1 in
+    let left : a.count - length at.yielded - 1 ≡ a.count - length (at.yielded ++ c.in-Some.row ∷ []) = omega (arith, length-append at.yielded (c.in-Some.row ∷ [])) in (
+      c.in-Some.ensures.steps.0 ∙ at.invariant.0,
+      subst (λ (m : ℕ). StepsLeft before (walk before a.count a.rows.now (some a.state.now)) c.step.new.state (chunks_exact_rest c.next.new.self) m) left
+          (steps_on before _ _ _ _ at.invariant.1 c.in-Some.row.now _ came.0 (came.1 ∙ at.invariant.0) c.step.ensures c.if-not-step.false),
+    )
 
 pub returns : goal.returns
 returns c =
     let a = c.args in
-    let before = before_by a.s a.next a.defs.now a.parts.now a.attrs.now in
-    let at = c.loop-m in
-    made_all before a.state.now a.count a.rows.now at.invariant.1.fits (steps_end before _ _ at.t.now at.m at.invariant.1 (omega arith))
+    let before = before_by a.next a.t.now.form in
+    let at = c.loop-row in
+    made_all before a.state.now a.count a.rows.now at.invariant.1.fits
+    (steps_end before _ _ _ _ at.invariant.1 (subst (λ (n : ℕ). length (chunks_exact_rest at.row-iterator) < n) at.invariant.0 c.in-None.ensures.steps.1.0))

@@ -1,15 +1,7 @@
 -- `row_state::take_row` meets its contract: each return is a case of `stepped`, by the row's sort: an element's
 -- (`took_element` of TakenLaws), an attribute's (`took_attribute`) or a text's (`took_text`).
-use native.Mathlib.Omega.{arith}
-use borrow.Author.Rules.{rules}
 use Rattle.row_state.proofs.TakenLaws.{took_element, took_attribute, took_text}
 use Rattle.row_state.proofs.take_row.Goals as goal
-
-pub take_element-requires : goal.take_element-requires
-take_element-requires c =
-    let room = c.requires.1 in
-    let shallow = room.element (omega (arith, c.row_sort-sort.ensures, c.if-sort-eq1.true)) in
-    (c.requires.0, omega (arith, c.row_depth-d.ensures, shallow), omega (arith, c.row_index-index.ensures, room.index))
 
 pub returns-then-sort-eq1 : goal.returns-then-sort-eq1
 returns-then-sort-eq1 c =

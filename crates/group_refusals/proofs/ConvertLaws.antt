@@ -22,7 +22,7 @@ use Rattle.rules.specs.Refusal.{◌if◌, first, conditions, found_at, no_place,
 use Rattle.rules.proofs.Words.{or_split}
 use Rattle.model.specs.declared.place.Holder.{Holder}
 use Rattle.model.specs.declared.place.Found.{Found}
-use Rattle.model.specs.declared.place.Found.TheVariants.{At, Absent}
+use Rattle.std.specs.Prelude.{Option as Maybe, Some, None}
 use Rattle.model.specs.Members.{members_from}
 use Rattle.model.specs.Places.{place_in}
 use Rattle.model_writer.proofs.PartAfter.{has_named}
@@ -132,17 +132,23 @@ module _ (bs : Bytes) (pass : passes bs ≡ true) (o : ℕ) (p : List ℕ) (n k 
     unfolding conditions
     convert_6 h = gives_next h₄ (gives_hit h)
 
-    module _ (h₆ : not (ltb o (length (form_in bs))) ≡ false) (l : o < definition_count bs) {part : Bytes} (own : part ≡ part_in bs o) {f : Found} (e : f ≡ place_in false p part) where
+    module _ (h₆ : not (ltb o (length (form_in bs))) ≡ false) (l : o < definition_count bs) {part : Bytes} (own : part ≡ part_in bs o) {f : Maybe Found} (e : f ≡ place_in false p part) where
       found_in_lem : place_in false p (part_in bs o) ≡ f
       found_in_lem = sym (e ∙ ap (place_in false p) own)
 
-      pub convert_none : f ≡ Absent → Gives 8 (conditions (convert_to_group o p n k) (store_in bs))
+      pub convert_none : f ≡ None → Gives 8 (conditions (convert_to_group o p n k) (store_in bs))
       unfolding conditions
       convert_none w =
           let z : found_at (convert (group_of k) n) o p (store_in bs) ≡ none = found_convert (group_of k) n o p bs ∙ absent bs pass o l false p (found_in_lem ∙ w) in
           gives_next h₄ (gives_next h₆ (gives_hit (ap (λ (y : Option (Spot Bytes)). no_place y || at_place (λ c x. not (has_members n x)) y) z)))
 
-      module _ (h : Holder) (i : ℕ) (w : f ≡ At h i) where
+      module _ (g : Found) (w : f ≡ Some g) where
+        abbrev h : Holder
+        h = g.holder
+
+        abbrev i : ℕ
+        i = g.particle
+
         pub convert_placed : Placed bs o false p h i
         convert_placed = present_at bs pass o l false p h i (found_in_lem ∙ w)
 
@@ -152,7 +158,7 @@ module _ (bs : Bytes) (pass : passes bs ≡ true) (o : ℕ) (p : List ℕ) (n k 
         pub convert_there : {r : ℕ} {kind : GroupKind} → kind ≡ group_of k → Gives r (convert_tests h.kind kind n (members_from h.depth (drop (particle_size * i) part)))
             → Gives r (conditions (convert_to_group o p n k) (store_in bs))
         unfolding conditions
-        convert_there {r} {kind} g q =
+        convert_there {r} {kind} k_is q =
             let x : Spot Bytes = convert_placed.found in
             let z : found_at (convert (group_of k) n) o p (store_in bs) ≡ some x = found_convert (group_of k) n o p bs ∙ convert_placed.there in
             let members_are : members_from h.depth (drop (particle_size * i) part) ≡ rename (index_of_name bs) x.picked =
@@ -160,7 +166,7 @@ module _ (bs : Bytes) (pass : passes bs ≡ true) (o : ℕ) (p : List ℕ) (n k 
             let tests : convert_tests h.kind kind n (members_from h.depth (drop (particle_size * i) part)) ≡ convert_tests (kind_at Sequence x.context) (group_of k) n x.picked =
             ap (convert_tests h.kind kind n) members_are
             ∙ tests_named (index_of_name bs) h.kind kind n x.picked
-            ∙ ap₂ (λ (a b : GroupKind). convert_tests a b n x.picked) convert_placed.kind g in
+            ∙ ap₂ (λ (a b : GroupKind). convert_tests a b n x.picked) convert_placed.kind k_is in
             gives_next h₄ (gives_next h₆ (record {
               is = q.is ∙ ap first tests
                   ∙ sym (ap (λ (y : Option (Spot Bytes)). first (8 if (no_place y || at_place (λ c x. not (has_members n x)) y) ∷ 14 if at_place

@@ -2,7 +2,7 @@
 use Prim.Native.Nat.{ℕ}
 use native.Mathlib.Omega.{arith}
 use borrow.Author.Tests.{ne_eqb}
-use mathlib.Core.Path.{◌≡◌, sym, ap, ap₂, ◌∙◌}
+use mathlib.Core.Path.{◌≡◌, refl, sym, ap, ap₂, ◌∙◌}
 use mathlib.Core.Bool.{Bool, true, false, ◌||◌, not}
 use mathlib.Core.Option.{none, some}
 use mathlib.Core.List.{List, [], ◌∷◌}
@@ -25,6 +25,12 @@ use Rattle.change_laws.specs.FirstCondition.{Gives}
 use Rattle.change_laws.proofs.FirstCondition.{gives_hit, gives_next}
 use Rattle.model_places.specs.Placing.{model_in, found_by, ElementAt, GroupAt}
 use Rattle.group_refusals.specs.Grouping.{unlike_kind}
+use Rattle.std.specs.Prelude.{Option as Maybe, Some}
+use Rattle.model.specs.declared.What.{What}
+use Rattle.model.specs.declared.What.TheVariants.{Element, Group}
+use Rattle.model_places.specs.declared.Picked.{Picked}
+use Rattle.model_places.specs.Placing.{Picking}
+use Rattle.model_places.proofs.PickLaws.{as_element}
 use Rattle.model_places.proofs.PlaceLaws.{found_flatten}
 use Rattle.model_places.proofs.CountLaws.{done_many}
 
@@ -53,6 +59,13 @@ module _ (bs : Bytes) (o : ℕ) (p : List ℕ) where
     unfolding conditions
     flatten_element x = gives_next h (gives_hit (ap no_group_at (found_flatten o p bs ∙ x.placed.there) ∙ ap (on_group true (λ q. false)) x.is))
 
+    pub flatten_other : {r : Maybe Picked} (x : Picking bs o p r) {y : Picked} → r ≡ Some y → ((k : GroupKind) (n : ℕ) → y.member.what ≡ Group k n → ⊥) → Gives 8 (conditions (flatten_group o p) (store_in bs))
+    flatten_other x {y} e other = by y.member.what refl
+      where
+        by : (w : What) → y.member.what ≡ w → Gives 8 (conditions (flatten_group o p) (store_in bs))
+        by (Element i) w = flatten_element (as_element x e w)
+        by (Group k n) w = absurd (other k n w)
+
     pub flatten_group_lem : {l : Holder} {n : ℕ} {q : Quantifier} {k : GroupKind} {m : ℕ} → GroupAt bs o p l n q k m → {r : ℕ}
         → Gives r (14 if (not (is_one q) || unlike_kind l.kind k m) ∷ []) → Gives r (conditions (flatten_group o p) (store_in bs))
     unfolding conditions
@@ -63,10 +76,3 @@ module _ (bs : Bytes) (o : ℕ) (p : List ℕ) where
         ∙ ap (flatten_unlike x.placed.found.context) x.is
         ∙ ap (λ (b : Bool). not (is_one q) || b) (unlike_is x.placed.found.context k m x.placed.kind (lone_many x.inner ∙ ap (λ (z : ℕ). eqb z 1) (sym x.many))) in
         gives_next h (gives_next (ap no_group_at e ∙ ap (on_group true (λ q. false)) x.is) (record { is = f.is ∙ ap (λ (b : Bool). first (14 if b ∷ [])) (sym u) }))
-
--- ---- the tests of the code
-pub unlike_read : (list k : GroupKind) (n : ℕ) {b : Bool} → b ≡ same_kind k list → not (b || eqb n 1) ≡ unlike_kind list k n
-unlike_read list k n e = ap (λ (b : Bool). not (b || eqb n 1)) e
-
-pub flat_read : (q : Quantifier) (list k : GroupKind) (n : ℕ) {a b v : Bool} → a ≡ is_one q → b ≡ unlike_kind list k n → (not a || b) ≡ v → (not (is_one q) || unlike_kind list k n) ≡ v
-flat_read q list k n e f h = ap₂ (λ (x y : Bool). not x || y) (sym e) (sym f) ∙ h

@@ -62,7 +62,7 @@ pub fn convert_to_group_refusal(
     ensures { (number_given result ≡ first (conditions (convert_to_group owner place.now count sort) (store_in store.now)))
         × Finds store.now owner false place.now result }
 {
-    if !matches!(sort, 1 | 2) {
+    if !((sort == 1) | (sort == 2)) {
         return Err(Refusal::BadCode);
     }
     if owner as usize >= layout::definition_count(store) {

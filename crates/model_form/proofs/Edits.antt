@@ -20,9 +20,8 @@ use Rattle.rules.specs.Change.{definition_at, edit_at, edit_model, in_model}
 use Rattle.rules.proofs.BooleanLaws.{Every}
 use Rattle.rules.proofs.LayoutLaws.{SmallParticle}
 use Rattle.model.specs.declared.place.Holder.{Holder}
-use Rattle.model.specs.declared.place.Found.TheVariants.{At}
 use Rattle.model.specs.Members.{particles_of, start_of}
-use Rattle.model.specs.Places.{Particles, place_in}
+use Rattle.model.specs.Places.{Particles, leads_to, place_in}
 use Rattle.layout.specs.Bodies.{particles_in}
 use Rattle.lookup.specs.Bodies.{bodies_of}
 use Rattle.model_writer.specs.Spliced.{count_of, spliced_form}
@@ -44,7 +43,7 @@ use Rattle.model_form.proofs.Small.{small_particles, update_length}
 
 module _ (bs : Bytes) (q : passes bs ≡ true) (o : ℕ) (l : o < definition_count bs) (p : List ℕ) (e : Edit Bytes) (x : Spot Bytes)
     (c : (definition_at o (store_in bs).form).content ≡ complex (model_in bs o))
-    (found : placed e p (model_in bs o) ≡ some x) (fits : suits e x.picked ≡ true) (h : Holder) (n : ℕ) (at : place_in (inserts e) p (part_in bs o) ≡ At h n) where
+    (found : placed e p (model_in bs o) ≡ some x) (fits : suits e x.picked ≡ true) (h : Holder) (n : ℕ) (at : place_in (inserts e) p (part_in bs o) ≡ leads_to h n) where
   abbrev own : Bytes
   own = writing.particle_range (start_of o (flat (store_in bs)).definitions) (count_of o (flat (store_in bs)).definitions) (each particle_bytes (flat (store_in bs)).particles)
 
@@ -69,7 +68,7 @@ module _ (bs : Bytes) (q : passes bs ≡ true) (o : ℕ) (l : o < definition_cou
   there : o < length (store_in bs).form
   there = omega (arith, form_size bs q)
 
-  at_own : place_in (inserts e) p own ≡ At h n
+  at_own : place_in (inserts e) p own ≡ leads_to h n
   at_own = ap (place_in (inserts e) p) own_same ∙ at
 
   -- THE FORM AFTER THE EDIT

@@ -20,9 +20,8 @@ use Rattle.rules.proofs.LayoutLaws.{SmallParticle}
 use Rattle.change_laws.proofs.ModelAfter.{place_right}
 use Rattle.rules.proofs.RenamingPlaces.{plug_rename}
 use Rattle.model.specs.declared.place.Holder.{Holder}
-use Rattle.model.specs.declared.place.Found.TheVariants.{At}
 use Rattle.model.specs.Members.{particles_of, start_of}
-use Rattle.model.specs.Places.{Particles, top, place_in}
+use Rattle.model.specs.Places.{Particles, leads_to, top, place_in}
 use Rattle.model.specs.Positions.{spread, count, offset, holder, leading, trailing, level}
 use Rattle.model.proofs.PositionLaws.{spread_named, spread_plug, length_leading, length_spread}
 use Rattle.model.proofs.WrittenLaws.{particles_written}
@@ -31,7 +30,7 @@ use Rattle.model_writer.specs.PartAfter.{suits, rename_edit, inserts, part_after
 use Rattle.model_writer.specs.Writing.{Fitting, particle_range, EditPart}
 use Rattle.model_writer.proofs.FormAfter.{reformed, form_after_lem}
 use Rattle.model_writer.proofs.HeadAfter.{start_before}
-use Rattle.model_writer.proofs.PartAfter.{place_here, edited_part, suits_named}
+use Rattle.model_writer.proofs.PartAfter.{place_here, same_list, same_particle, edited_part, suits_named}
 use Rattle.model_writer.proofs.BodyWriting.{length_after_lem}
 use Rattle.model_writer.proofs.HeadWriting.{each_take, each_drop, length_bytes}
 
@@ -114,7 +113,7 @@ module _ (s : Store) (o : ℕ) (p : List ℕ) (e : Edit Bytes) (x : Spot Bytes) 
   own_many : length own ≡ particle_size * many
   own_many = ap length own_particles ∙ length_bytes (take many (drop first (flat s).particles)) ∙ ap (λ (k : ℕ). particle_size * k) all_there
 
-  module _ (h : Holder) (n : ℕ) (at : place_in (inserts e) p own ≡ At h n) where
+  module _ (h : Holder) (n : ℕ) (at : place_in (inserts e) p own ≡ leads_to h n) where
     -- THE BODIES AFTER THE EDIT
     pub edit_flat : flat (reformed (edit_model o p e s.form) s) ≡ spliced_form o (part_after (rename_edit index e) h n (particles_of own)) (flat s)
     edit_flat =
@@ -124,7 +123,7 @@ module _ (s : Store) (o : ℕ) (p : List ℕ) (e : Edit Bytes) (x : Spot Bytes) 
     abbrev context : Context ℕ
     context = rename_around index x.context
 
-    same_place : At (holder top 0 context) (offset context) ≡ At h n
+    same_place : leads_to (holder top 0 context) (offset context) ≡ leads_to h n
     same_place = sym (place_here index e p (members (definition_at o s.form)) x found) ∙ ap (place_in (inserts e) p) (sym own_bytes) ∙ at
 
     own_long : length own ≡ particle_size * length (spread 0 (plug context (rename index x.picked)))
@@ -137,7 +136,7 @@ module _ (s : Store) (o : ℕ) (p : List ℕ) (e : Edit Bytes) (x : Spot Bytes) 
     -- HOW MANY PARTICLES the owner has then
     pub edit_length : length (part_after (rename_edit index e) h n (particles_of own)) ≡ length_after (rename_edit index e) many
     edit_length =
-        let stands : offset context ≡ n = cc same_place in
+        let stands : offset context ≡ n = same_particle same_place in
         let inside : offset context + count (rename index x.picked) ≤ many = omega (arith, own_long, own_many, offset_inside context (rename index x.picked)) in
         let some_there : inserts (rename_edit index e) ≡ false → n < length (particles_of own) =
         λ f. omega (arith, stands, inside, own_count, suits_some (rename_edit index e) (rename index x.picked) (suits_named index e x.picked ∙ fits) f) in
@@ -147,8 +146,8 @@ module _ (s : Store) (o : ℕ) (p : List ℕ) (e : Edit Bytes) (x : Spot Bytes) 
     pub edit_body : Every SmallParticle (flat (reformed (edit_model o p e s.form) s)).particles → EditPart (rename_edit index e) h n first many parts
     unfolding Fitting spliced_form
     edit_body small =
-        let starts : holder top 0 context ≡ h = cc same_place in
-        let stands : offset context ≡ n = cc same_place in
+        let starts : holder top 0 context ≡ h = same_list same_place in
+        let stands : offset context ≡ n = same_particle same_place in
         let new : Particles = part_after (rename_edit index e) h n (particles_of own) in
         record {
           whole = omega (arith, length_bytes (flat s).particles);

@@ -17,9 +17,9 @@ use Rattle.rules.proofs.RenamingPlaces.{plug_rename}
 use Rattle.change_laws.proofs.ModelAfter.{place_of_lem, place_right}
 use Rattle.model.specs.declared.place.Holder.{Holder}
 use Rattle.model.specs.declared.place.Found.{Found}
-use Rattle.model.specs.declared.place.Found.TheVariants.{At, Absent}
+use Rattle.std.specs.Prelude.{Option as Maybe, Some, None}
 use Rattle.model.specs.Members.{particles_of}
-use Rattle.model.specs.Places.{Particles, top, place_in, last_by}
+use Rattle.model.specs.Places.{Particles, leads_to, top, place_in, last_by}
 use Rattle.model.specs.Positions.{spread, offset, holder, spot_in, leading, trailing, level}
 use Rattle.model.proofs.PositionLaws.{spread_plug, length_leading}
 use Rattle.model.proofs.NamedPlaces.{rename_found, find_gap_named, find_nth_named}
@@ -127,30 +127,46 @@ module _ (f : Bytes → ℕ) where
   spot_named flatten p ms = find_nth_named f p ms
 
   pub place_here : (e : Edit Bytes) (p : List ℕ) (ms : Members Bytes) (x : Spot Bytes) → placed e p ms ≡ some x
-      → place_in (inserts e) p (each particle_bytes (spread 0 (rename f ms))) ≡ At (holder top 0 (rename_around f x.context)) (offset (rename_around f x.context))
+      → place_in (inserts e) p (each particle_bytes (spread 0 (rename f ms))) ≡ leads_to (holder top 0 (rename_around f x.context)) (offset (rename_around f x.context))
   unfolding placed
   place_here e p ms x at = place_written (inserts e) p (rename f ms) ∙ by (leb (length p) 5) refl
     where
       by : (b : Bool) → leb (length p) 5 ≡ b
-          → ◌≡◌ {A = Found} (elim (leb (length p) 5) [ true ↦ spot_in top (find (last_by (inserts e)) p (rename f ms)) | false ↦ Absent ])
-          (At (holder top 0 (rename_around f x.context)) (offset (rename_around f x.context)))
+          → ◌≡◌ {A = Maybe Found} (elim (leb (length p) 5) [ true ↦ spot_in top (find (last_by (inserts e)) p (rename f ms)) | false ↦ None ])
+          (leads_to (holder top 0 (rename_around f x.context)) (offset (rename_around f x.context)))
       by true q =
           let z : 0 + offset (rename_around f x.context) ≡ offset (rename_around f x.context) = omega arith in
-          rw q (ap (spot_in top) (spot_named e p ms ∙ ap (rename_found f) (place_of_lem e p ms x at)) ∙ ap (λ (n : ℕ). At (holder top 0 (rename_around f x.context)) n) z)
+          rw q (ap (spot_in top) (spot_named e p ms ∙ ap (rename_found f) (place_of_lem e p ms x at)) ∙ ap (λ (n : ℕ). leads_to (holder top 0 (rename_around f x.context)) n) z)
       by false q =
           let z : none ≡ some x = rw (q, placed) at at in
           let y : false ≡ true = cc z in
           absurd (false≢true y)
 
+-- where a place leads, the list and the particle are given by it
+abbrev list_of : Maybe Found → Holder
+list_of None = top
+list_of (Some f) = f.holder
+
+abbrev number_of : Maybe Found → ℕ
+number_of None = 0
+number_of (Some f) = f.particle
+
+module _ {h g : Holder} {p n : ℕ} (e : leads_to h p ≡ leads_to g n) where
+  pub same_list : h ≡ g
+  same_list = ap list_of e
+
+  pub same_particle : p ≡ n
+  same_particle = ap number_of e
+
 -- THE PART AFTER AN EDIT: from the bytes of the part before it and the place found in them
 pub edited_part : (f : Bytes → ℕ) (e : Edit Bytes) (p : List ℕ) (ms : Members Bytes) (x : Spot Bytes) (bs : Bytes) (h : Holder) (at : ℕ)
-    → bs ≡ each particle_bytes (spread 0 (rename f ms)) → placed e p ms ≡ some x → suits e x.picked ≡ true → place_in (inserts e) p bs ≡ At h at
+    → bs ≡ each particle_bytes (spread 0 (rename f ms)) → placed e p ms ≡ some x → suits e x.picked ≡ true → place_in (inserts e) p bs ≡ leads_to h at
     → spread 0 (rename f (model_after e x)) ≡ part_after (rename_edit f e) h at (particles_of bs)
 edited_part f e p ms x bs h at eb found fits w =
     let c : Context ℕ = rename_around f x.context in
-    let same : At (holder top 0 c) (offset c) ≡ At h at = sym (place_here f e p ms x found) ∙ ap (place_in (inserts e) p) (sym eb) ∙ w in
-    let held : holder top 0 c ≡ h = cc same in
-    let stands : offset c ≡ at = cc same in
+    let same : leads_to (holder top 0 c) (offset c) ≡ leads_to h at = sym (place_here f e p ms x found) ∙ ap (place_in (inserts e) p) (sym eb) ∙ w in
+    let held : holder top 0 c ≡ h = same_list same in
+    let stands : offset c ≡ at = same_particle same in
     let old : spread 0 (plug c (rename f x.picked)) ≡ particles_of bs =
     ap (spread 0) (sym (plug_rename f x.context x.picked) ∙ ap (rename f) (place_right e p ms x found)) ∙ sym (ap particles_of eb ∙ particles_written (spread 0 (rename f ms))) in
     ap (spread 0) (plug_rename f x.context (edited e x.picked) ∙ ap (plug c) (edited_named f e x.picked))

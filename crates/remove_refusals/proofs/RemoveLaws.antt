@@ -47,8 +47,13 @@ use Rattle.change_laws.proofs.FirstCondition.{gives_hit, gives_next, gives_none}
 use Rattle.instance_search.specs.Instances.{has_instance}
 use Rattle.model_places.specs.Placing.{index_of_name, model_in, part_in, found_by, ElementAt, GroupAt}
 use Rattle.remove_refusals.specs.Removing.{choice_left, Removable, remove_tests}
+use Rattle.std.specs.Prelude.{Option as Maybe, Some}
+use Rattle.model.specs.declared.What.{What}
+use Rattle.model.specs.declared.What.TheVariants.{Element, Group}
+use Rattle.model_places.specs.declared.Picked.{Picked}
+use Rattle.model_places.specs.Placing.{Picking}
 use Rattle.model_places.proofs.PlaceLaws.{found_remove}
-use Rattle.model_places.proofs.PickLaws.{around, from_there, one_there, read_there, part_few}
+use Rattle.model_places.proofs.PickLaws.{as_group, around, from_there, one_there, read_there, part_few}
 use Rattle.instance_search.proofs.InstanceLaws.{instance_is}
 use Rattle.model_places.proofs.CountLaws.{done_many}
 use Rattle.remove_refusals.proofs.ContextViews.{Lead, Inner, View, outer, inner, view}
@@ -270,6 +275,13 @@ module _ (bs : Bytes) (w : Whole bs) (o : ℕ) (place : List ℕ) where
     pub remove_group : {h : Holder} {p : ℕ} {q : Quantifier} {k : GroupKind} {n : ℕ} → GroupAt bs o place h p q k n → Gives 8 (conditions (remove_element o place) (store_in bs))
     unfolding conditions
     remove_group x = gives_next within (gives_hit (ap no_element_at (found_remove o place bs ∙ x.placed.there) ∙ ap (on_element true (λ q. false)) x.is))
+
+    pub remove_other : {r : Maybe Picked} (x : Picking bs o place r) {y : Picked} → r ≡ Some y → ((i : ℕ) → y.member.what ≡ Element i → ⊥) → Gives 8 (conditions (remove_element o place) (store_in bs))
+    remove_other x {y} e other = by y.member.what refl
+      where
+        by : (w : What) → y.member.what ≡ w → Gives 8 (conditions (remove_element o place) (store_in bs))
+        by (Element i) w = absurd (other i w)
+        by (Group k n) w = remove_group (as_group x e w)
 
     pub remove_there : {h : Holder} {p : ℕ} {q : Quantifier} (x : ElementAt bs o place h p q) {s : Bytes} → s ≡ part_in bs o → {r : ℕ}
         → Gives r (remove_tests (has_instance bs o) s h p) → Gives r (conditions (remove_element o place) (store_in bs))

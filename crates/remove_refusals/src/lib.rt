@@ -56,7 +56,10 @@ fn remove_at(store: &[u8], owner: u32, part: &[u8], h: Holder, p: usize) -> Resu
     if (d > 0) & (p == h.start) & (n == 1) {
         return Err(Refusal::Grouping);
     }
-    if h.kind == GroupKind::Sequence || choice_left(part, h.start, p, d) {
+    if h.kind == GroupKind::Sequence {
+        return Ok(());
+    }
+    if choice_left(part, h.start, p, d) {
         return Ok(());
     }
     instance_search::instance_refusal(store, owner, Refusal::NoMatch)
@@ -73,9 +76,9 @@ pub fn remove_element_refusal(store: &[u8], owner: u32, place: &[u32]) -> Result
     }
     let part = model_places::own_part(store, owner as usize);
     let x = model_places::pick(store, owner, place).ok_or(Refusal::NoPlace)?;
-    if let What::Group(_, _) = x.member.what {
+    let What::Element(_) = x.member.what else {
         return Err(Refusal::NoPlace);
-    }
+    };
     remove_at(store, owner, part, x.place.holder, x.place.particle)?;
     Ok(x.place)
 }

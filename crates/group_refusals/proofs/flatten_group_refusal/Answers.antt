@@ -1,35 +1,59 @@
 -- `group_refusals::flatten_group_refusal` meets its contract: each return gives the first condition of change 7 that
--- holds: 6 (`flatten_6` of GroupLaws), 8 at an element or where nothing is found (`flatten_element`, `flatten_none`),
--- else what `flatten_at` gives (`flatten_group_lem`), with the place of the group.
+-- holds: 6 (`flatten_6` of GroupLaws), 8 where nothing or an element is picked (`flatten_none`, `flatten_element`),
+-- else what `flatten_at` gives (`flatten_group_lem`), and where that is none, with the place of the group.
+use mathlib.Core.Path.{ap, ◌∙◌}
 use native.Mathlib.Omega.{arith}
+use Rattle.std.specs.Prelude.{Option as Maybe, ok_or}
+use Rattle.std.proofs.lemmas.Result.{err_from_is_err_and}
+use Rattle.rules.specs.declared.Refusal.TheVariants.{NoPlace}
+use Rattle.rules.specs.Given.{number_given}
+use Rattle.model_places.specs.declared.Picked.{Picked}
 use Rattle.store_check.proofs.StoreFacts.{whole, past_definitions, within_definitions}
-use Rattle.model_places.proofs.PickLaws.{as_element, as_group, as_none, refused_there, located_there}
-use Rattle.group_refusals.proofs.GroupLaws.{flatten_6, flatten_none, flatten_element, flatten_group_lem}
+use Rattle.model_places.proofs.PickLaws.{as_group, as_none}
+use Rattle.group_refusals.proofs.GroupLaws.{flatten_6, flatten_none, flatten_other, flatten_group_lem}
 use borrow.Author.Rules.{rules}
 use Rattle.group_refusals.proofs.flatten_group_refusal.Goals as goal
 
 pub returns-then-owner-definition_count : goal.returns-then-owner-definition_count
 returns-then-owner-definition_count c =
-    refused_there (flatten_6 _ _ _ (past_definitions _ (whole _ c.requires) c.definition_count.ensures c.args.owner (omega arith))) c.refused.ensures (omega arith)
+    ((flatten_6 _ _ _ (past_definitions _ (whole _ c.requires) c.definition_count.ensures c.args.owner (omega arith))).is, tt)
 
-pub returns-in-Element : goal.returns-in-Element
-returns-in-Element c =
+pub returns-in_err-x : goal.returns-in_err-x
+returns-in_err-x c =
     let a = c.args in
-    let element = as_element c.pick-x.ensures c.in-Element.is in
-    refused_there (flatten_element a.store.now a.owner a.place.now
-    (within_definitions _ (whole _ c.requires) c.definition_count.ensures a.owner (omega arith)) element) c.refused-in-Element.ensures (omega arith)
+    let no = c.in_err-x.ensures in
+    let p = err_from_is_err_and c.from_residual.result c.from_residual.ensures.1 in
+    rw (p.1, p.2) (
+      ap number_given (no.value ∙ ap (λ (o : Maybe Picked). ok_or o NoPlace) no.ok_part)
+          ∙ (flatten_none a.store.now a.owner a.place.now
+          (within_definitions _ (whole _ c.requires) c.definition_count.ensures a.owner (omega arith)) (as_none c.pick.ensures no.ok_part)).is,
+      tt,
+    )
 
-pub returns-in-Group : goal.returns-in-Group
-returns-in-Group c =
-    let a = c.args in
-    let group = as_group c.pick-x.ensures c.in-Group.is in
-    located_there (flatten_group_lem a.store.now a.owner a.place.now
-    (within_definitions _ (whole _ c.requires) c.definition_count.ensures a.owner (omega arith)) group c.flatten_at-number.ensures)
-    c.at_place.ensures group.placed
+pub returns-in_default : goal.returns-in_default
+returns-in_default c =
+    let a = c.args in (
+      (flatten_other a.store.now a.owner a.place.now
+          (within_definitions _ (whole _ c.requires) c.definition_count.ensures a.owner (omega arith)) c.pick.ensures c.in_ok-x.ensures.ok_part c.in_default.not-Group).is,
+      tt,
+    )
 
-pub returns-in-Absent : goal.returns-in-Absent
-returns-in-Absent c =
+pub returns-in_err-flatten_at : goal.returns-in_err-flatten_at
+returns-in_err-flatten_at c =
     let a = c.args in
-    let nothing = as_none c.pick-x.ensures c.in-Absent.is in
-    refused_there (flatten_none a.store.now a.owner a.place.now
-    (within_definitions _ (whole _ c.requires) c.definition_count.ensures a.owner (omega arith)) nothing) c.refused-in-Absent.ensures (omega arith)
+    let group = as_group c.pick.ensures c.in_ok-x.ensures.ok_part c.in-Group.is in
+    let p = err_from_is_err_and c.from_residual-in_err-flatten_at.result c.from_residual-in_err-flatten_at.ensures.1 in
+    rw (p.1, p.2) (
+      (flatten_group_lem a.store.now a.owner a.place.now
+          (within_definitions _ (whole _ c.requires) c.definition_count.ensures a.owner (omega arith)) group c.in_err-flatten_at.ensures).is,
+      tt,
+    )
+
+pub returns : goal.returns
+returns c =
+    let a = c.args in
+    let group = as_group c.pick.ensures c.in_ok-x.ensures.ok_part c.in-Group.is in (
+      (flatten_group_lem a.store.now a.owner a.place.now
+          (within_definitions _ (whole _ c.requires) c.definition_count.ensures a.owner (omega arith)) group c.in_ok-flatten_at.ensures).is,
+      group.placed,
+    )

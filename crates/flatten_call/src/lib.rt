@@ -10,7 +10,12 @@ ghost use Rattle.rules.specs.Given.{AnswersBy};
 use rules::Refusal;
 
 /// 7: flattens a group into its list.
-pub fn flatten_group(store: &[u8], owner: u32, place: &[u32], out: &mut [u8]) -> Result<usize, Refusal>
+pub fn flatten_group(
+    store: &[u8],
+    owner: u32,
+    place: &[u32],
+    out: &mut [u8],
+) -> Result<usize, Refusal>
     ensures { AnswersBy (outcome (flatten_group owner place.now) store.now (length out.old)) out.old result out.new }
 {
     if !store_check::passes(store) {

@@ -74,7 +74,9 @@ pub fn insert_element(
 ) -> Answer
     ensures { Promise (insert_element owner place.now definition quantifier text.now) store.now out.old result.number result.length out.new }
 {
-    Answer::from(insert_call::insert_element(store, owner, place, definition, quantifier, text, out))
+    Answer::from(insert_call::insert_element(
+        store, owner, place, definition, quantifier, text, out,
+    ))
 }
 
 /// 4: removes an element from a model, with the children of instances that it stands for.

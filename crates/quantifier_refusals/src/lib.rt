@@ -100,6 +100,14 @@ pub fn requantify_refusal(
     if group != matches!(x.member.what, What::Group(_, _)) {
         return Err(Refusal::NoPlace);
     }
-    quantifier_at(store, owner, x.place.holder.spine, x.member.quantifier, new, text, group)?;
+    quantifier_at(
+        store,
+        owner,
+        x.place.holder.spine,
+        x.member.quantifier,
+        new,
+        text,
+        group,
+    )?;
     Ok(x.place)
 }

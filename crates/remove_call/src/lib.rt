@@ -11,7 +11,12 @@ use model_writer::Edit;
 use rules::Refusal;
 
 /// 4: removes an element, with the children of instances that it stands for.
-pub fn remove_element(store: &[u8], owner: u32, place: &[u32], out: &mut [u8]) -> Result<usize, Refusal>
+pub fn remove_element(
+    store: &[u8],
+    owner: u32,
+    place: &[u32],
+    out: &mut [u8],
+) -> Result<usize, Refusal>
     ensures { AnswersBy (outcome (remove_element owner place.now) store.now (length out.old)) out.old result out.new }
 {
     if !store_check::passes(store) {

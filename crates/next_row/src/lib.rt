@@ -19,8 +19,8 @@ pub struct OpenElement {
     pub last: u8,
 }
 
-/// A place that is open: that of the documents, that of the rows below an element, or that below an attribute or a text,
-/// where nothing stands.
+/// A place that is open: that of the documents, that of the rows below an element, or that below an attribute or a
+/// text, where nothing stands (the code opens none there; the automaton of the proofs does).
 #[derive(Clone, Copy)]
 pub enum Level {
     Documents,

@@ -161,16 +161,19 @@ tabled_same {bs} {f} {f'} {t} a b x =
 
 -- ---- children, looked up
 module _ (f : Form) (t : List ℕ) (m : Modelled f f.definition_count t) (i : ℕ) (h : i < f.definition_count) (last : ℕ) (b : Bool) where
-  pub follow_found : (index : ℕ) → last ≤ f.definition_count → index < 64 → b ≡ has (get_or t (68 * i + last) 0) index → b ≡ steps (all_members (model_part f.definitions.now f.particles.now i)) last index
+  abbrev ms : Members ℕ
+  ms = all_members (model_part f.definitions.now f.particles.now i)
+
+  pub follow_found : (index : ℕ) → last ≤ f.definition_count → index < 64 → b ≡ has (get_or t (68 * i + last) 0) index → b ≡ steps ms last index
   follow_found index l k e = e ∙ (m.line i h).next_is last index l k
 
-  pub finish_none : last ≡ 0 → b ≡ has (get_or t (68 * i + 66) 0) 0 → b ≡ finishes (all_members (model_part f.definitions.now f.particles.now i)) last
+  pub finish_none : last ≡ 0 → b ≡ has (get_or t (68 * i + 66) 0) 0 → b ≡ finishes ms last
   finish_none z e = rw z (e ∙ (m.line i h).nothing_is)
 
-  pub finish_child : (last ≡ 0 → ⊥) → last ≤ f.definition_count → b ≡ has (get_or t (68 * i + 65) 0) (last - 1) → b ≡ finishes (all_members (model_part f.definitions.now f.particles.now i)) last
+  pub finish_child : (last ≡ 0 → ⊥) → last ≤ f.definition_count → b ≡ has (get_or t (68 * i + 65) 0) (last - 1) → b ≡ finishes ms last
   finish_child z l e =
       let u : suc (last - 1) ≡ last = omega (arith, z) in
-      e ∙ (m.line i h).ends_is (last - 1) (omega (arith, z)) ∙ ap (finishes (all_members (model_part f.definitions.now f.particles.now i))) u
+      e ∙ (m.line i h).ends_is (last - 1) (omega (arith, z)) ∙ ap (finishes ms) u
 
 -- ---- attributes, looked up
 not_has : (b : Bool) → b ≡ false → not b ≡ true

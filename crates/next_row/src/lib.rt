@@ -19,8 +19,8 @@ pub struct OpenElement {
     pub last: u8,
 }
 
-/// A place that is open: that of the documents, that of the rows below an element, or that below an attribute or a text,
-/// where nothing stands.
+/// A place that is open: that of the documents, that of the rows below an element, or that below an attribute or a
+/// text, where nothing stands (the code opens none there; the automaton of the proofs does).
 #[derive(Clone, Copy)]
 pub enum Level {
     Documents,
@@ -114,12 +114,7 @@ pub fn may_come(t: &FormTable<'_>, l: Level, row: &[u8]) -> bool
 {
     match l {
         Level::Documents => layout::row_sort(row) == 1,
-        Level::Element(e) => {
-            if e.index as usize >= t.form.definition_count {
-                return false;
-            }
-            row_may(t, e, row)
-        }
+        Level::Element(e) => (e.index as usize) < t.form.definition_count && row_may(t, e, row),
         Level::Nothing => false,
     }
 }
@@ -130,12 +125,7 @@ pub fn may_end(t: &FormTable<'_>, l: Level) -> bool
 {
     match l {
         Level::Documents => true,
-        Level::Element(e) => {
-            if e.index as usize >= t.form.definition_count {
-                return false;
-            }
-            rows_end(t, e)
-        }
+        Level::Element(e) => (e.index as usize) < t.form.definition_count && rows_end(t, e),
         Level::Nothing => true,
     }
 }

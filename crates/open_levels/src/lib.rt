@@ -19,6 +19,8 @@ fn level_ends(t: &FormTable<'_>, state: &[u8; STATE], k: usize) -> bool
 }
 
 /// Whether of the open levels those from `keep` on are owed nothing.
+// The walk asks it for each row, so that it is to be compiled into the walk although the end asks it too.
+#[inline(always)]
 pub fn levels_end(t: &FormTable<'_>, state: &[u8; STATE], keep: usize) -> bool
     requires { open_elements state.now ≤ 64 }
     ensures { result ≡ open_end (index_form_of t.now.form) state.now keep }

@@ -59,23 +59,6 @@ created_told w attrs j b k u v e s t x =
       omega (arith, ap length x, created_short (sort_of k) u, ap length t, attribute_value_short b w long),
     )
 
--- ---- the code of a quantifier, b, read of n
-module _ (b n : ℕ) (e : b ≡ n) where
-  pub optional_code : b ≡ 1 → true ≡ skips (quantifier_of n)
-  optional_code q = let z : n ≡ 1 = sym e ∙ q in rw z
-
-  pub optional_code_2 : b ≡ 2 → true ≡ skips (quantifier_of n)
-  optional_code_2 q = let z : n ≡ 2 = sym e ∙ q in rw z
-
-  pub needed_code : (b ≡ 1 → ⊥) → (b ≡ 2 → ⊥) → false ≡ skips (quantifier_of n)
-  needed_code x y = by n (λ q. x (e ∙ q)) (λ q. y (e ∙ q))
-    where
-      by : (k : ℕ) → (k ≡ 1 → ⊥) → (k ≡ 2 → ⊥) → false ≡ skips (quantifier_of k)
-      by zero x y = refl
-      by (suc zero) x y = absurd (x refl)
-      by (suc (suc zero)) x y = absurd (y refl)
-      by (suc (suc (suc k))) x y = refl
-
 -- ---- attributes
 module _ (F : IndexForm) (value : ℕ → Bytes) (d i : ℕ) where
   required_last : (j n : ℕ) → required_rows F value d i j (suc n) ≡ required_rows F value d i j n ++ required_rows F value d i (j + n) 1

@@ -2,14 +2,13 @@
 use Prim.Native.Nat.{ℕ, zero, suc, ◌-◌, ◌<◌, ◌≤◌}
 use native.Mathlib.Omega.{arith}
 use borrow.Author.Tests.{lt-ltb, le-ltb, ne_eqb, ltb-true}
-use mathlib.Core.Path.{◌≡◌, refl, sym, ap₂, ◌∙◌}
+use mathlib.Core.Path.{◌≡◌, refl, sym, ap₂}
 use mathlib.Core.Bool.{Bool, true, false, not, ◌||◌, false≢true}
 use mathlib.Core.List.{List, [], ◌∷◌}
 use lib.Dec.{ltb, eqb}
 use lib.ListN.{length, take, drop, get_or}
 use Rattle.rules.specs.declared.GroupKind.{GroupKind}
 use Rattle.rules.specs.declared.GroupKind.TheVariants.{Sequence, Choice}
-use Rattle.rules.specs.declared.Quantifier.{Quantifier}
 use Rattle.rules.specs.Bytes.{Bytes}
 use Rattle.rules.specs.Model.{Members, skips, nothing, unless, beside, filling}
 use Rattle.rules.specs.Store.{bare, tree}
@@ -21,18 +20,6 @@ use Rattle.layout.specs.Fields.{particle_depth_at, particle_quantifier_at, parti
 use Rattle.model.specs.Members.{index_member, index_members, particles_of, members_from}
 use Rattle.model.proofs.MembersLaws.{particles_few, particles_more}
 use Rattle.filling.specs.Parts.{element_needed, none_needed, no_element_needed}
-
--- ---- one particle, by its sort
-module _ (q : Quantifier) (sort n : ℕ) (e : sort ≡ n) where
-  pub needed_element : {b : Bool} → sort ≡ 0 → b ≡ skips q → not b ≡ element_needed n q
-  needed_element z o = let y : n ≡ 0 = sym e ∙ z in rw (y, o)
-
-  pub needed_group : (sort ≡ 0 → ⊥) → false ≡ element_needed n q
-  needed_group x = by n (λ y. x (e ∙ y))
-    where
-      by : (k : ℕ) → (k ≡ 0 → ⊥) → false ≡ element_needed k q
-      by zero y = absurd (y refl)
-      by (suc k) y = refl
 
 -- ---- a filling
 -- nothing beside nothing

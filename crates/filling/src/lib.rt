@@ -91,6 +91,7 @@ fn accepts_nothing(s: &[u8], d: usize, kind: GroupKind) -> bool
     requires { d ≤ 256 }
     ensures { result ≡ nothing kind (members_from d s.now) }
 {
+    // By hand: a member's own members are read from the tail.
     let mut t = s;
     while t.len() >= PARTICLE_SIZE {
         let own = layout::particle_depth(t) as usize;
@@ -132,6 +133,7 @@ fn is_needed(t: &[u8]) -> bool
 fn needs_no_element(s: &[u8], d: usize) -> bool
     ensures { result ≡ no_element_needed d s.now }
 {
+    // By hand, as the loops over the same particles that read on from the tail: one form is plainer than two.
     let mut t = s;
     while t.len() >= PARTICLE_SIZE {
         let own = layout::particle_depth(t) as usize;
@@ -201,6 +203,7 @@ fn put_group(
         (member_rows form.now text.now h depth (filling kind (members_from d s.now)))
         c.old out.old c.new out.new }
 {
+    // By hand: a member's own members are written from the tail.
     let mut t = s;
     while t.len() >= PARTICLE_SIZE {
         let own = layout::particle_depth(t) as usize;

@@ -3,7 +3,6 @@ use Prim.Native.Nat.{ℕ, ◌+◌, ◌-◌, ◌*◌, ◌<◌, ◌≤◌}
 use native.Mathlib.Omega.{arith}
 use mathlib.Core.Path.{◌≡◌, sym, ap, ◌∙◌}
 use mathlib.Core.Bool.{Bool, true, false}
-use mathlib.Core.List.{List}
 use lib.ListN.{length, take, drop, length-drop}
 use Rattle.rules.specs.Bytes.{Bytes}
 use Rattle.rules.specs.Preorder.{Deep}
@@ -13,11 +12,11 @@ use Rattle.codec.proofs.Writers.{tail_seen}
 use Rattle.layout.proofs.RowLaws.{size_more}
 use Rattle.row_walk.specs.declared.Which.{Which}
 use Rattle.row_walk.specs.declared.Head.{Head}
-use Rattle.row_walk.specs.Walk.{matches, names_ground}
+use Rattle.row_walk.specs.Walk.{matches}
 use Rattle.row_walk.specs.Step.{row_of_head, valueless}
 use Rattle.walk_writer.proofs.StepLaws.{matches_any}
 use Rattle.walk_writer.proofs.WalkLaws.{rows_step}
-use Rattle.row_bound.specs.Bound.{only_if, matching_in, places_in}
+use Rattle.row_bound.specs.Bound.{only_if, matching_in}
 
 only_few : (b : Bool) → only_if b 1 ≤ 1
 only_few true = omega arith
@@ -35,9 +34,6 @@ pub record Counting (w : ℕ) (which : Which) (count : ℕ) (rows t : Bytes) (m 
   pub size : row_size w * m ≤ length t
   pub few : found + m ≤ 4096
 
-pub counting_start : (w : ℕ) (which : Which) (count : ℕ) (rows : Bytes) → row_size w * count ≤ length rows → count ≤ 4096 → Counting w which count rows rows count 0
-counting_start w which count rows h l = record { all = omega arith; size = h; few = omega arith }
-
 matching_step : (w : ℕ) (which : Which) (m : ℕ) (t : Bytes) → 0 < m
     → matching_in which (read_many read_row (row_size w) m t) ≡ only_if (matches which (read_row (take (row_size w) t)).row) 1 + matching_in which (read_many read_row (row_size w) (m - 1) (drop (row_size w) t))
 unfolding matching_in
@@ -48,10 +44,6 @@ unfolding matching_in
 matching_none w which m t e = ap (λ (n : ℕ). matching_in which (read_many read_row (row_size w) n t)) e
 
 module _ {w : ℕ} {which : Which} {count : ℕ} {rows t : Bytes} {m found : ℕ} (g : Counting w which count rows t m found) where
-  -- the next row is whole
-  pub counting_first : 0 < m → row_size w ≤ length t
-  counting_first h = omega (arith, g.size, size_more (row_size w) m (λ e. omega arith))
-
   pub counting_step : 0 < m → (k : ℕ) → k ≡ row_size w → (h : Head) → row_of_head h (read_row (take k t)).row.value ≡ read_row (take k t) → {b : Bool} → b ≡ matches which (valueless h).row
       → {n : ℕ} → n ≡ found + only_if b 1 → Counting w which count rows (take (length t - k) (drop k t)) (m - 1) n
   counting_step o k ek h read {b} eb {n} en = rw (tail_seen t k, ek) (went (rw ek at read))
@@ -68,8 +60,3 @@ module _ {w : ℕ} {which : Which} {count : ℕ} {rows t : Bytes} {m found : ℕ
 
   pub counting_end : m ≡ 0 → (found ≡ matching_in which (read_many read_row (row_size w) count rows)) × (found ≤ 4096)
   counting_end e = (omega (arith, g.all, matching_none w which m t e), omega (arith, g.few))
-
--- .. and the ground
-pub places_of : (which : Which) (xs : List (Deep FlatRow)) {n : ℕ} {b : Bool} {r : ℕ} → (n ≡ matching_in which xs) × (n ≤ 4096) → b ≡ names_ground which
-    → r ≡ n + only_if b 1 → (r ≡ places_in which xs) × (r ≤ 4097)
-places_of which xs {b = b} (e, l) g q = (omega (arith, e, ap (λ (c : Bool). only_if c 1) g, q), omega (arith, q, only_few b))

@@ -38,6 +38,7 @@ fn matching(w: usize, rows: &[u8], count: usize, which: Which) -> usize
     ensures { (result ≡ matching_in which (read_many read_row (row_size w) count rows.now)) × (result ≤ 4096) }
 {
     let size = layout::row_size(w);
+    // By `chunks_exact` the number of rows that are left is not at hand, and the proof did not close.
     let mut t = rows;
     let mut m = count;
     let mut found = 0;

@@ -151,16 +151,9 @@ module _ {w : ℕ} {p : Plan} where
   recount : {rows : Bytes} {most : ℕ} {o u : Open} (i j : ℕ) → i ≡ j → PlainRows w p rows most o (record { count = i; opened = u }) → PlainRows w p rows most o (record { count = j; opened = u })
   recount {rows} {most} {o} {u} i j e x = subst (λ (n : ℕ). PlainRows w p rows most o (record { count = n; opened = u })) e x
 
-  pub staying_start : {t : Bytes} {m : ℕ} {o : Open} → WalkRows w m t → row_size w * m ≤ length t → Near o → Staying w p t m o t m o
-  staying_start {m = m} x h n = record { goes = λ k u r. recount k (m - m + k) (omega arith) r; near = n; old = x; size = h; few = omega arith }
-
   module _ {rows : Bytes} {most : ℕ} {o : Open} {t : Bytes} {m : ℕ} {q : Open} (g : Staying w p rows most o t m q) where
     pub staying_end : (n : ℕ) → n ≡ most - m → PlainRows w p rows most o (record { count = n; opened = q })
     staying_end n e = recount (most - m + 0) n (omega arith) (g.goes 0 q (plain_none w p t m q g.near))
-
-    -- the next row is whole
-    pub staying_first : 0 < m → row_size w ≤ length t
-    staying_first h = omega (arith, g.size, size_more (row_size w) m (λ e. omega arith))
 
     -- .. and a row of an old store
     pub staying_fair : 0 < m → (k : ℕ) → k ≡ row_size w → {h : Head} → row_of_head h (read_row (take k t)).row.value ≡ read_row (take k t) → Fair h

@@ -18,7 +18,7 @@ use Rattle.row_walk.specs.declared.Plan.{Plan}
 use Rattle.row_walk.specs.declared.Open.{Open}
 use Rattle.row_walk.specs.Walk.{kept_row, is_below_taken, closes, closed, owed, row_depth, emitted, next_open, walked, at_first}
 use Rattle.row_walk.specs.Refilled.{refilled}
-use Rattle.walk_writer.specs.Step.{plan_filling, Ready, Settled}
+use Rattle.walk_writer.specs.Step.{plan_filling, Settled}
 
 -- a filling of which no row was written where one might be has none
 pub settled_nothing : {F : Form} {v : Bytes} (what : Filling) {w : ℕ} {out : Bytes} {r : Cursor} {out' : Bytes}
@@ -40,16 +40,5 @@ module _ (p : Plan) (what : Filling) (v : Bytes) (fill : ℕ → List (Deep Flat
   ]
 
 module _ {F : Form} {v : Bytes} (p : Plan) {what : Filling} (s : Settled F v p.filling what) where
-  pub ready_settled : Ready F v p → Ready F v (refilled p what)
-  ready_settled x =
-      record {
-        width = x.width;
-        definitions = x.definitions;
-        attributes = x.attributes;
-        text = x.text;
-        plan = record { definitions = x.plan.definitions; attributes = x.plan.attributes };
-        filling = s.indexed;
-      }
-
   pub walked_settled : (xs : List (Deep FlatRow)) → walked p v (plan_filling F p v) (at_first p) xs ≡ walked (refilled p what) v (fill_with F what v) (at_first (refilled p what)) xs
   walked_settled xs = sym (walked_refilled p what v (fill_with F what v) (at_first p) xs ∙ (λ i. walked p v (λ d. s.same d i) (at_first p) xs))

@@ -10,11 +10,9 @@ use Rattle.rules.specs.Preorder.{Deep}
 use Rattle.rules.specs.Layout.{FlatRow}
 use Rattle.rules.specs.Decode.{read_row}
 use Rattle.row_writer.specs.declared.Cursor.{Cursor}
-use Rattle.layout.specs.RowBytes.{reindexed_row, valued_row}
-use Rattle.row_writer.specs.Written.{Written, Room}
+use Rattle.layout.specs.RowBytes.{valued_row}
+use Rattle.row_writer.specs.Written.{Written}
 use Rattle.row_writer.proofs.WrittenLaws.{written_none, written_then, written_as}
-use Rattle.filling.specs.Parts.{Asks}
-use Rattle.layout.specs.declared.Form.{Form}
 use Rattle.row_walk.specs.declared.Which.{Which}
 use Rattle.row_walk.specs.declared.Which.TheVariants.{Nothing, Everything, Ground, Elements, Attributes, Serial}
 use Rattle.row_walk.specs.declared.Later.{Later}
@@ -25,12 +23,7 @@ use Rattle.row_walk.specs.declared.Head.{Head}
 use Rattle.row_walk.specs.Walk.{matches, is_everything, is_later, spared, moved_index, kept_row, is_below_taken, closes, closed, is_below, is_taken, is_filled}
 use Rattle.row_walk.specs.Walk.{after_taken, after_kept, owed, row_depth, emitted, next_open}
 use Rattle.row_walk.specs.Step.{row_of_head, valueless, stays_due, kept_with}
-use Rattle.walk_writer.specs.Step.{row_rewritten, step_rows, step_open, Came, Ready, Near, WalkRow, Seen}
-
--- ---- reading
-pub head_read : (row : Bytes) (d s i k : ℕ) → d ≡ (read_row row).depth → s ≡ (read_row row).row.sort → i ≡ (read_row row).row.index → k ≡ (read_row row).row.serial
-    → row_of_head (record { depth = d; sort = s; index = i; serial = k }) (read_row row).row.value ≡ read_row row
-head_read row d s i k ed es ei ek = rw (ed, es, ei, ek)
+use Rattle.walk_writer.specs.Step.{row_rewritten, step_rows, step_open, Came, Near, WalkRow, Seen}
 
 -- ---- what is due after a row that opens nothing
 pub due_stays : (d b l : Bool) → ((d && b) && l) ≡ false → d ≡ (d && not (b && l))
@@ -84,24 +77,10 @@ module _ (p : Plan) (o : Open) (h : Head) (u : Bytes) where
 
 -- ---- a filling that is due, and one that is not
 module _ {w : ℕ} {due : Bool} {c : Cursor} {out : Bytes} where
-  pub owed_put : {xs : List (Deep FlatRow)} {r : Cursor} {out' : Bytes} → due ≡ true → Written w xs c out r out' → Written w (owed due xs) c out r out'
-  owed_put {xs} e p = written_as (ap (λ (b : Bool). owed b xs) e) p
-
   pub owed_none : (xs : List (Deep FlatRow)) → due ≡ false → Written w (owed due xs) c out c out
   owed_none xs e = written_as (ap (λ (b : Bool). owed b xs) e) written_none
 
--- what the filling asks, and what it writes
-pub asks_of : {F : Form} {txt : Bytes} {p : Plan} {c : Cursor} {d : ℕ} → Ready F txt p → Room F.width c → d ≤ 81 → Asks F c txt F.definition_count d
-asks_of r m h = record { width = r.width; room = m; text = r.text; attributes = r.attributes; deep = omega (arith, r.definitions) }
-
 -- ---- a row that is kept
-module _ {w : ℕ} {valued : Bool} (index : ℕ) (v row : Bytes) {c r : Cursor} {out out' : Bytes} where
-  pub with_value_lem : valued ≡ true → Written w (valued_row index v row ∷ []) c out r out' → Written w (row_rewritten valued index v row ∷ []) c out r out'
-  with_value_lem e p = written_as (ap (λ (b : Bool). row_rewritten b index v row ∷ []) e) p
-
-  pub with_own : valued ≡ false → Written w (reindexed_row index row ∷ []) c out r out' → Written w (row_rewritten valued index v row ∷ []) c out r out'
-  with_own e p = written_as (ap (λ (b : Bool). row_rewritten b index v row ∷ []) e) p
-
 module _ {w : ℕ} (p : Plan) (v : Bytes) (h : Head) (row : Bytes) (s : Seen w h row) (index : ℕ) (e : index ≡ moved_index p (valueless h).row) where
   moved_as : index ≡ moved_index p (read_row row).row
   moved_as = e ∙ ap (λ (x : Deep FlatRow). moved_index p x.row) s.is

@@ -12,13 +12,12 @@ use Rattle.rules.specs.Bytes.{Bytes}
 use Rattle.rules.specs.Preorder.{Deep}
 use Rattle.rules.specs.Layout.{FlatRow, row_size}
 use Rattle.rules.specs.Decode.{read_row, read_many}
-use Rattle.codec.proofs.Writers.{tail_seen}
 use Rattle.codec.proofs.Records.{many_take, many_drop}
 use Rattle.layout.proofs.RowLaws.{size_more}
 use Rattle.row_writer.specs.declared.Cursor.{Cursor}
 use Rattle.row_writer.specs.Written.{Written, Room, OldRows}
 use Rattle.row_writer.proofs.WrittenLaws.{written_stop, written_then, written_as}
-use Rattle.row_writer.proofs.BlockLaws.{size_split, block_small}
+use Rattle.row_writer.proofs.BlockLaws.{size_split}
 use Rattle.row_walk.specs.declared.Plan.{Plan}
 use Rattle.row_walk.specs.declared.Open.{Open}
 use Rattle.walk_writer.specs.declared.Run.{Run}
@@ -141,26 +140,6 @@ module _ {w : ℕ} {p : Plan} {v : Bytes} {fill : ℕ → List (Deep FlatRow)} w
         after : walked p v fill o (read_many read_row (row_size w) m t) ≡ step_rows p v fill o (read_row (take (row_size w) t)) ++ walked p v fill
             (step_open p v fill o (read_row (take (row_size w) t))) (read_many read_row (row_size w) (m - 1) (drop (row_size w) t))
         after = ap (walked p v fill o) (rows_step w m t h) ∙ walked_cons p v fill o (read_row (take (row_size w) t)) (read_many read_row (row_size w) (m - 1) (drop (row_size w) t))
-
-    module _ {r : Cursor} {s : Run} {out₁ : Bytes} (x : Advances w p v fill t m o at out' r s out₁) {size k : ℕ} (es : size ≡ row_size w) (ek : k ≡ size * s.count) where
-      bytes_passed : k ≡ row_size w * s.count
-      bytes_passed = ek ∙ ap (λ (i : ℕ). i * s.count) es
-
-      -- the bytes of the rows that were passed are there
-      pub pass_long : k ≤ length t
-      pass_long = omega (arith, bytes_passed, g.size, size_split (row_size w) s.count m x.few)
-
-      -- .. and few
-      pub pass_small : k < 4611686018427387904
-      pass_small = omega (arith, bytes_passed, block_small g.room x.within)
-
-      -- some rows further
-      pub going_pass : WalkOn w p v fill whole c out (take (length t - k) (drop k t)) (m - s.count) r s.opened out₁
-      going_pass =
-          let on = x.going in
-          let there : WalkOn w p v fill whole c out (drop (row_size w * s.count) t) (m - s.count) r s.opened out₁ =
-          record { goes = λ r' out'' z. g.goes r' out'' (on.goes r' out'' z); near = on.near; room = on.room; rows = on.rows; size = on.size; long = on.long ∙ g.long } in
-          rw (tail_seen t k, bytes_passed) there
 
     pub going_end : m ≡ 0 → (k : ℕ) → k ≡ o.below - 1 → {r : Cursor} {out'' : Bytes} → Written w (owed o.due (fill k)) at out' r out'' → Written w whole c out r out''
     going_end e k ek {r} {out''} x =

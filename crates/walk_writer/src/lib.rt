@@ -93,6 +93,7 @@ fn plain_rows(w: usize, plan: &Plan, rows: &[u8], most: usize, o: Open) -> Run
     ensures { PlainRows w plan.now rows.now most o result }
 {
     let size = layout::row_size(w);
+    // By hand: what is open goes on from row to row and is part of the answer, so `position` would be no plainer.
     let mut t = rows;
     let mut m = most;
     let mut q = o;
@@ -213,6 +214,7 @@ impl Walker<'_> {
             c.old out.old c.new out.new }
     {
         let size = layout::row_size(self.form.width);
+        // By hand: each step goes on by as many rows as it passed, which no iterator does.
         let mut t = rows;
         let mut m = count;
         let mut o = row_walk::at_first(self.plan);

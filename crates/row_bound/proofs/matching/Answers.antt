@@ -1,6 +1,5 @@
 -- `row_bound::matching` meets its contract: each step counts the first row that is left if it is one of them, and so
--- keeps the invariant (`counting_step` of CountLaws), as that row is whole (`counting_first`). At the end no row is
--- left to count (`counting_end`).
+-- keeps the invariant (`counting_step` of CountLaws). At the end no row is left to count (`counting_end`).
 use native.Mathlib.Omega.{arith}
 use Rattle.row_bound.proofs.CountLaws.{counting_step, counting_end}
 use Rattle.row_bound.proofs.matching.Goals as goal

@@ -1,6 +1,6 @@
 -- `row_bound::most_added` meets its contract: nothing is added where the plan fills nothing (`bounds_none` of
 -- BoundLaws) or a filling has no row (`bounds_empty`), else at most the rows of one filling at each place
--- (`bounds_places`), a product in range (`product_few`).
+-- (`bounds_places`).
 use borrow.Author.Tests.{not-true}
 use Rattle.row_bound.proofs.BoundLaws.{bounds_none, bounds_empty, bounds_places}
 use Rattle.row_bound.proofs.most_added.Goals as goal

@@ -1,6 +1,6 @@
--- `walk_writer::plain_rows` meets its contract: the invariant holds before the first row (`staying_start` of PlainLaws)
--- and after each that is plain (`staying_step`); at the first that is not, and past the last, it is the contract
--- (`staying_end`); each row is whole and its numbers are low (`staying_first`, `staying_fair`).
+-- `walk_writer::plain_rows` meets its contract: the invariant holds after each row that is plain (`staying_step` of
+-- PlainLaws); at the first that is not, and past the last, it is the contract (`staying_end`); the numbers of a row are
+-- low (`staying_fair`).
 use native.Mathlib.Omega.{arith}
 use mathlib.Core.Path.{refl, sym, ◌∙◌}
 use Rattle.walk_writer.proofs.PlainLaws.{staying_end, staying_fair, staying_step}

@@ -1,6 +1,5 @@
 -- `walk_writer::walk` meets its contract: the filling of `filling_with_rows` stands for that of the plan, so that the
--- walk with it writes the same rows (`walked_settled` of SettledLaws; `written_as` of WrittenLaws), and may be called
--- (`ready_settled`); `filling_with_rows` may be called by `asks_of` of StepLaws.
+-- walk with it writes the same rows (`walked_settled` of SettledLaws; `written_as` of WrittenLaws in `row_writer`).
 use Rattle.rules.specs.Layout.{row_size}
 use Rattle.rules.specs.Decode.{read_row, read_many}
 use Rattle.row_writer.proofs.WrittenLaws.{written_as}

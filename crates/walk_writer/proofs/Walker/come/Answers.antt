@@ -1,6 +1,6 @@
--- `walk_writer::Walker::come` meets its contract: a row that is taken gives no row (`came_taken` of StepLaws); where a filling
--- may come before it, the contract of `come_due` is this one; else the row alone is written (`row_kept`, `came_still`),
--- and what is due stays due (`due_still`, `kept_due`).
+-- `walk_writer::Walker::come` meets its contract: a row that is taken gives no row (`came_taken` of StepLaws); where a
+-- filling may come before it, the contract of `come_due` is this one; else the row alone is written (`row_kept`,
+-- `came_still`), and what is due stays due (`due_still`, `kept_due`).
 use mathlib.Core.Path.{ap, sym, ◌∙◌}
 use mathlib.Core.Bool.{Bool, ◌&&◌}
 use Rattle.walk_writer.specs.Going.{fill_by}

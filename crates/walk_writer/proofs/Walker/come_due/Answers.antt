@@ -1,6 +1,6 @@
 -- `walk_writer::Walker::come_due` meets its contract: the filling, if it comes before the row, and then the row itself
 -- (`row_kept` of StepLaws) are what comes of a row that is not taken (`came_kept`), and `kept` gives what is open after
--- it (`kept_due`); the row's depth is one at which a filling may be written (`asks_of`).
+-- it (`kept_due`).
 use mathlib.Core.Path.{refl, sym}
 use mathlib.Core.Bool.{false, not, ◌&&◌}
 use Rattle.walk_writer.specs.Going.{fill_by}

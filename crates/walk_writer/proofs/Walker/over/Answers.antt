@@ -1,6 +1,5 @@
--- `walk_writer::Walker::over` meets its contract: the invariant holds before the first row (`going_start` of WalkLaws) and
--- after each pass (`going_pass`), whose bytes are there and few (`pass_long`, `pass_small`); it gives the contract
--- where no row may be written any more (`going_stop`), and past the last row by the filling still due (`going_end`).
+-- `walk_writer::Walker::over` meets its contract: the invariant gives it where no row may be written any more
+-- (`going_stop` of WalkLaws), and past the last row by the filling still due (`going_end`).
 use native.Mathlib.Omega.{arith}
 use Rattle.walk_writer.proofs.WalkLaws.{going_stop, going_end}
 use Rattle.walk_writer.proofs.Walker.over.Goals as goal

@@ -1,6 +1,6 @@
--- `walk_writer::Walker::pass` meets its contract: if all rows that may be written stay as they are, the block is what was
--- passed (`passes_block` of WalkLaws), else the block and the row after it (`passes_row`); both are of an old store
--- (`rows_within`, `rows_old`, `rows_at`), and their sizes are in range (`size_split`, `block_small` of BlockLaws).
+-- `walk_writer::Walker::pass` meets its contract: if all rows that may be written stay as they are, the block is what
+-- was passed (`passes_block` of WalkLaws), else the block and the row after it (`passes_row`); both are of an old store
+-- (`rows_within`, `rows_old`, `rows_at`), and there are as many bytes (`size_split` of BlockLaws in `row_writer`).
 use Prim.Native.Nat.{◌-◌, ◌≤◌}
 use native.Mathlib.Omega.{arith}
 use mathlib.Core.Path.{refl}

@@ -1,5 +1,5 @@
--- `walk_writer::Walker::put_owed` meets its contract: if the filling is due, `put_filling` writes its rows (`owed_put`
--- of StepLaws), and else no row is written (`owed_none`).
+-- `walk_writer::Walker::put_owed` meets its contract: if the filling is not due, no row is written (`owed_none` of
+-- StepLaws).
 use Rattle.walk_writer.proofs.StepLaws.{owed_none}
 use Rattle.walk_writer.proofs.Walker.put_owed.Goals as goal
 

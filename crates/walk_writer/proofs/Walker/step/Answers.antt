@@ -1,6 +1,6 @@
--- `walk_writer::Walker::step` meets its contract: a row below one that is taken gives no row and leaves open what is open
--- (`step_gone` of StepLaws); else the filling that it closes, if due, and then what `come` writes are what comes of it
--- (`step_on`), with the head that was read (`seen`); the filling's depth is one at which it may be written (`asks_of`).
+-- `walk_writer::Walker::step` meets its contract: a row below one that is taken gives no row and leaves open what is
+-- open (`step_gone` of StepLaws); else the filling that it closes, if due, and then what `come` writes are what comes of
+-- it (`step_on`), with the head that was read (`seen`).
 use Rattle.walk_writer.specs.Going.{fill_by}
 use Rattle.walk_writer.proofs.StepLaws.{seen, step_gone, step_on}
 use Rattle.walk_writer.proofs.Walker.step.Goals as goal

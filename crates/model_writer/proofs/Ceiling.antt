@@ -113,7 +113,9 @@ module _ {goal : Bool} {d : ℕ} {t : Bytes} {m : ℕ} (v : Deepening goal d t m
         rw (p, there.rest)
         (record {
           still = still_rest;
-          same = deep_first f ∙ ap (λ (z : Bool). z && depths_within (moved (shift true) d (passing b m) (particles_of (drop particle_size t)))) (le-leb (suc (read_particle t).depth) 4 (omega (arith, depth_there)));
+          same =
+              deep_first f
+              ∙ ap (λ (z : Bool). z && depths_within (moved (shift true) d (passing b m) (particles_of (drop particle_size t)))) (le-leb (suc (read_particle t).depth) 4 (omega (arith, depth_there)));
         })
 
 -- ---- the edits

@@ -25,7 +25,8 @@ use Rattle.automaton.proofs.+nexts_from_first_nexts.Goals.{first_nexts-in-Elemen
 
 module _ {S : Type 0} (has : S → ℕ → Bool) (y : ℕ) where
   -- the particle that t begins with, of what is told of it once
-  module _ (d x : ℕ) (t : Bytes) (p : Particle) (ep : p ≡ particle_of (read_particle t)) {once here r : Nexts S} (e : once ≡ here) (q : told has r y ≡ quantify_facts p.quantifier (told has once y)) where
+  module _ (d x : ℕ) (t : Bytes) (p : Particle) (ep : p ≡ particle_of (read_particle t)) {once here r : Nexts S} (e : once ≡ here)
+      (q : told has r y ≡ quantify_facts p.quantifier (told has once y)) where
     element : (i : ℕ) → p.what ≡ Element i → told has here y ≡ single numbers i x y → told has r y ≡ first_facts d t x y
     element i w f = first_element d x y t p ep i _ w (q ∙ ap (λ (n : Nexts S). quantify_facts p.quantifier (told has n y)) e ∙ ap (quantify_facts p.quantifier) f)
 

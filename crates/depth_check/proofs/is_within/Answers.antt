@@ -11,7 +11,6 @@ use Rattle.model_writer.specs.PartAfter.{moved}
 use Rattle.model_writer.specs.Writing.{shift, depths_within}
 use Rattle.model.proofs.MembersLaws.{particles_past}
 use Rattle.model_writer.proofs.Ceiling.{within_drop, inserted_within, removed_within, requantified_within, grouped_within, flattened_within, within_case}
-use borrow.Author.Rules.{rules}
 use Rattle.depth_check.proofs.is_within.Goals as goal
 
 pub particles_from-requires : goal.particles_from-requires

@@ -5,7 +5,6 @@ use native.Mathlib.Omega.{arith}
 use mathlib.Core.Path.{ap₂}
 use Prim.Native.Nat.{ℕ, ◌+◌, ◌-◌}
 use Rattle.model_form.proofs.FormWriting.{many_in, after_in, few_more}
-use borrow.Author.Rules.{rules}
 use Rattle.model_form.proofs.all_after.Goals as goal
 
 pub overflow_sub-result : goal.overflow_sub-result

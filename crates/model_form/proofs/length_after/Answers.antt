@@ -2,7 +2,6 @@
 -- of FormWriting); for `Remove` and `Flatten` that is n - 1, which is 0 where n is 0.
 use native.Mathlib.Omega.{arith}
 use Rattle.model_form.proofs.FormWriting.{length_case}
-use borrow.Author.Rules.{rules}
 use Rattle.model_form.proofs.length_after.Goals as goal
 
 pub returns-in-Insert : goal.returns-in-Insert

@@ -1,7 +1,6 @@
 -- `model_form::own_after` meets its contract: the number of particles that is read is the length of the owner's model,
 -- so the answer of `length_after` is its length after the edit (`after_in` of FormWriting).
 use Rattle.model_form.proofs.FormWriting.{after_in}
-use borrow.Author.Rules.{rules}
 use Rattle.model_form.proofs.own_after.Goals as goal
 
 pub returns : goal.returns

@@ -3,7 +3,6 @@
 -- are in range by `owner_low`, `own_short`, `table_short`, `counted_short`, `particles_short` and `attrs_short`.
 use native.Mathlib.Omega.{arith}
 use Rattle.model_form.proofs.FormWriting.{owner_low, own_short, table_short, particles_short, counted_short, attrs_short, form_laid}
-use borrow.Author.Rules.{rules}
 use Rattle.model_form.proofs.put_edited.Goals as goal
 
 pub own_after-count-requires : goal.own_after-count-requires

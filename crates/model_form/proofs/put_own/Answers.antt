@@ -2,7 +2,6 @@
 -- model (`first_in`, `many_in` of FormWriting), so what `put_particles` writes are the form's particles after the edit
 -- (`own_laid`); what it requires is `body_in`, and the owner is in range by `owner_low`.
 use Rattle.model_form.proofs.FormWriting.{owner_low, first_in, many_in, own_laid, body_in}
-use borrow.Author.Rules.{rules}
 use Rattle.model_form.proofs.put_own.Goals as goal
 
 pub particles_before-first-requires : goal.particles_before-first-requires

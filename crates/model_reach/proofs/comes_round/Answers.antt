@@ -4,7 +4,6 @@
 use native.Mathlib.Omega.{arith}
 use Rattle.model_reach.proofs.FormFacts.{reads}
 use Rattle.model_reach.proofs.ModelLaws.{round_is}
-use borrow.Author.Rules.{rules}
 use Rattle.model_reach.proofs.comes_round.Goals as goal
 
 pub heights_avoiding-heights-requires : goal.heights_avoiding-heights-requires

@@ -4,7 +4,6 @@
 use native.Mathlib.Omega.{arith}
 use Rattle.model_reach.proofs.FormFacts.{reads}
 use Rattle.model_reach.proofs.ModelLaws.{in_model_is}
-use borrow.Author.Rules.{rules}
 use Rattle.model_reach.proofs.in_model.Goals as goal
 
 pub own_part-requires : goal.own_part-requires

@@ -1,8 +1,0 @@
--- `sets::intersection` meets its contract: what `&` gives is `bit_and`, the definition of `intersection`.
-use mathlib.Core.Path.{refl}
-use Rattle.sets.specs.Sets.{intersection}
-use Rattle.sets.proofs.intersection.Goals as goal
-
-pub returns : goal.returns
-unfolding intersection
-returns c = refl

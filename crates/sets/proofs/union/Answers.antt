@@ -1,8 +1,0 @@
--- `sets::union` meets its contract: what `|` gives is `bit_or`, the definition of `union`.
-use mathlib.Core.Path.{refl}
-use Rattle.sets.specs.Sets.{union}
-use Rattle.sets.proofs.union.Goals as goal
-
-pub returns : goal.returns
-unfolding union
-returns c = refl

@@ -179,10 +179,13 @@ module _ (bs : Bytes) (w : Whole bs) (a : ℕ) where
         row_serial_lem = ap (flat.serial_of_index a) (children_at_lem bs w k i f 2) ∙ row_here (heads f.below) ∙ sym (ap (λ (l : List ℕ). slice_get l 0) rows_are)
 
         pub serial_is : {r : Option ℕ} → r ≡ flat.serial_of_index a (children_at bs 2 i) → unwrap_or r 0 ≡ attribute_serial k a (store_in bs)
-        serial_is q = ap (λ (n : Option ℕ). unwrap_or n 0) (q ∙ row_serial_lem) ∙ serial_or_none 0 (children_of (attribute_named o.attribute.name) k (rows_of (store_in bs))) ∙ sym (ap (λ (z : maybe.Option Owned). elim z as (λ y. ℕ) [
-          | none ↦ 0
-          | some o ↦ serial_at 0 (children_of (attribute_named o.attribute.name) k (rows_of (store_in bs)))
-        ])
+        serial_is q =
+            ap (λ (n : Option ℕ). unwrap_or n 0) (q ∙ row_serial_lem)
+            ∙ serial_or_none 0 (children_of (attribute_named o.attribute.name) k (rows_of (store_in bs)))
+            ∙ sym (ap (λ (z : maybe.Option Owned). elim z as (λ y. ℕ) [
+              | none ↦ 0
+              | some o ↦ serial_at 0 (children_of (attribute_named o.attribute.name) k (rows_of (store_in bs)))
+            ])
             at)
 
         absent_is : {r : Option ℕ} → r ≡ flat.serial_of_index a (children_at bs 2 i) → is_absent k (rows_of (store_in bs)) (attribute_at a (form_in bs)) ≡ option.is_none r
@@ -310,7 +313,8 @@ module _ (bs : Bytes) (w : Whole bs) (a : ℕ) where
       unfolding conditions
       drop_7 e = gives_next (both x z).0 (gives_hit (ap₂ (λ (u v : Bool). u || v) (both x z).1 (missing ∙ ap (λ (n : Option ℕ). option.is_none n) e)))
 
-      module _ {m : ℕ} (e : r ≡ Some m) {j : ℕ} (d : j ≡ (row_in bs i).row.index) {c : Bool} (need : c ≡ (eqb (attribute_in (width_of bs) (attributes_in bs) a).owner j && (by_index bs).needed a)) where
+      module _ {m : ℕ} (e : r ≡ Some m) {j : ℕ} (d : j ≡ (row_in bs i).row.index) {c : Bool}
+          (need : c ≡ (eqb (attribute_in (width_of bs) (attributes_in bs) a).owner j && (by_index bs).needed a)) where
         there : (no_element k (store_in bs) || is_absent k (rows_of (store_in bs)) (attribute_at a (form_in bs))) ≡ false
         there = ap₂ (λ (u v : Bool). u || v) (both x z).1 (missing ∙ ap (λ (n : Option ℕ). option.is_none n) e)
 

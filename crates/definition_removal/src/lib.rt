@@ -69,6 +69,7 @@ fn put_attribute(w: usize, rec: &[u8], definition: u32, out: &mut [u8], at: usiz
 
 // ---- the first `count` records of a body
 
+// Two loops: one over a trait for a record is no plainer, with two types, two impls and a law on the records' lengths.
 fn put_particles(body: &[u8], count: usize, definition: u32, out: &mut [u8], start: usize) -> usize
     requires { (definition ≤ 64) × (count ≤ 4096) × (start < 1152921504606846976) }
     ensures { Laid (each_record (particle_record (lowered (suc definition) 1)) particle_size count body.now) out.old start result out.new }

@@ -43,7 +43,8 @@ use Rattle.rules.proofs.ConformingLaws.{is_element_lem}
 use Rattle.lookup.specs.Bodies.{rows_from}
 
 -- rows that a reader cut out are those of the string
-begins_in : (bs : Bytes) (p : Test) {n : ℕ} {rows : Bytes} {count : ℕ} (r : Option ℕ) → n ≡ width_of bs → rows ≡ tree_rows_in bs → count ≡ row_count bs → Begins n rows count r (seek p (rows_from n rows count 0))
+begins_in : (bs : Bytes) (p : Test) {n : ℕ} {rows : Bytes} {count : ℕ} (r : Option ℕ) → n ≡ width_of bs → rows ≡ tree_rows_in bs → count ≡ row_count bs
+    → Begins n rows count r (seek p (rows_from n rows count 0))
     → Begins (width_of bs) (tree_rows_in bs) (row_count bs) r (seek p (rows_from (width_of bs) (tree_rows_in bs) (row_count bs) 0))
 begins_in bs p None v e g b = sym (λ i. seek p (rows_from (v i) (e i) (g i) 0)) ∙ b
 begins_in bs p (Some r) v e g b =

@@ -14,6 +14,7 @@ use Rattle.document_rows.specs.declared.tree.Rows.{Rows}
 pub children_read : (bs : Bytes) (s i : ℕ) {r : Rows} → RowsIn bs r → children_below r.width r.bytes.now r.count s i ≡ children_at bs s i
 children_read bs s i e = λ j. children_below (e.width j) (e.bytes j) (e.count j) s i
 
-pub fits_read : (bs : Bytes) (i p new skip : ℕ) {ms : Members ℕ} {rs : List FlatRow} → ms ≡ model_at bs i → rs ≡ children_at bs 1 i → {b : Bool} → b ≡ runs ms 0 (word p new skip rs) → b ≡ fits_at bs i p new skip
+pub fits_read : (bs : Bytes) (i p new skip : ℕ) {ms : Members ℕ} {rs : List FlatRow} → ms ≡ model_at bs i → rs ≡ children_at bs 1 i
+    → {b : Bool} → b ≡ runs ms 0 (word p new skip rs) → b ≡ fits_at bs i p new skip
 unfolding fits_at
 fits_read bs i p new skip m c q = q ∙ (λ j. runs (m j) 0 (word p new skip (c j)))

@@ -1,13 +1,20 @@
 -- The children that are looked for.
 use Prim.Native.Nat.{ℕ, zero, suc}
-use borrow.Author.Tests.{eq-eqb, ne_eqb}
 use mathlib.Core.Path.{◌≡◌, refl, ap}
 use mathlib.Core.Bool.{Bool, true, false, ◌||◌}
 use mathlib.Core.List.{List, [], ◌∷◌, map}
-use Rattle.std.specs.Prelude.{Some, slice_get, option_map}
+use lib.Dec.{eqb}
+use Rattle.std.specs.List.{list_any, find}
+use Rattle.std.specs.Prelude.{slice_get, option_map}
 use Rattle.rules.specs.Bytes.{any}
+use Rattle.std.proofs.Common.{Bor}
 use Rattle.rules.specs.Layout.{FlatRow}
-use Rattle.document_rows.specs.Finding.{serial_in, serial_of_index, element_row_with}
+use Rattle.rules.specs.Decode.{read_row}
+use Rattle.document_rows.specs.Finding.{serial_in, serial_of_index}
+
+-- a row as it is lent
+abbrev pub row_read : Bor (List ℕ) → FlatRow
+row_read row = (read_row row.now).row
 
 -- the serial of number n
 pub serial_got : (n : ℕ) (rs : List FlatRow) → option_map serial_in (slice_get rs n) ≡ slice_get (map serial_in rs) n
@@ -15,14 +22,16 @@ serial_got n [] = refl
 serial_got zero (r ∷ rs) = refl
 serial_got (suc n) (r ∷ rs) = serial_got n rs
 
-pub indexed_this : (a : ℕ) (r : FlatRow) (rs : List FlatRow) → r.index ≡ a → serial_of_index a (r ∷ rs) ≡ Some r.serial
-indexed_this a r rs e = rw (eq-eqb r.index a e, serial_of_index)
+-- the serial of the first row with an index
+pub first_got : (a : ℕ) (rs : List FlatRow) → option_map serial_in (find (λ r. eqb r.index a) rs) ≡ serial_of_index a rs
+first_got a [] = refl
+first_got a (r ∷ rs) = by (eqb r.index a) refl (first_got a rs)
+  where
+    by : (b : Bool) → eqb r.index a ≡ b → option_map serial_in (find (λ r. eqb r.index a) rs) ≡ serial_of_index a rs
+        → option_map serial_in (find (λ r. eqb r.index a) (r ∷ rs)) ≡ serial_of_index a (r ∷ rs)
+    by true e h = rw (e, serial_of_index)
+    by false e h = rw (e, serial_of_index) h
 
-pub indexed_next : (a : ℕ) (r : FlatRow) (rs : List FlatRow) → (r.index ≡ a → ⊥) → serial_of_index a (r ∷ rs) ≡ serial_of_index a rs
-indexed_next a r rs e = rw (ne_eqb r.index a e, serial_of_index)
-
-pub any_this : (k : ℕ) (r : FlatRow) (rs : List FlatRow) → element_row_with k r ≡ true → any (element_row_with k) (r ∷ rs) ≡ true
-any_this k r rs e = ap (λ (b : Bool). b || any (element_row_with k) rs) e
-
-pub any_next : (k : ℕ) (r : FlatRow) (rs : List FlatRow) → element_row_with k r ≡ false → any (element_row_with k) (r ∷ rs) ≡ any (element_row_with k) rs
-any_next k r rs e = ap (λ (b : Bool). b || any (element_row_with k) rs) e
+pub any_is : (test : FlatRow → Bool) (rs : List FlatRow) → list_any test rs ≡ any test rs
+any_is test [] = refl
+any_is test (r ∷ rs) = ap (λ (b : Bool). test r || b) (any_is test rs)

@@ -54,15 +54,10 @@ fn element_at(rows: Rows, element: u32) -> Option<usize>
 }
 
 // Whether an element with a serial is among the rows.
-fn has_child(children: Children, element: u32) -> bool
+fn has_child(mut children: Children, element: u32) -> bool
     ensures { result ≡ any (element_row_with element) (coming children.entry) }
 {
-    for row in children {
-        if is_element(row, element) {
-            return true;
-        }
-    }
-    false
+    children.any(|row| is_element(row, element))
 }
 
 // The number of the row right above the element row with a serial.
@@ -213,10 +208,7 @@ pub fn attribute_row_serial(store: &[u8], i: usize, attribute: usize) -> Option<
     requires { RowOf store.now i }
     ensures { result ≡ serial_of_index attribute (children_at store.now 2 i) }
 {
-    for row in children(store, i, ATTRIBUTE) {
-        if layout::row_index(row) as usize == attribute {
-            return Some(layout::row_serial(row));
-        }
-    }
-    None
+    let mut rows = children(store, i, ATTRIBUTE);
+    let row = rows.find(|row| layout::row_index(row) as usize == attribute)?;
+    Some(layout::row_serial(row))
 }

@@ -90,7 +90,7 @@ impl Nexts<'_> {
     }
 
     /// Whether the model takes the children, with a new one at a place and without the one with serial `skip`.
-    pub fn takes(self, children: Children, place: usize, new: usize, skip: u32) -> bool
+    pub(crate) fn takes(self, children: Children, place: usize, new: usize, skip: u32) -> bool
         requires { new < 65536 }
         ensures { result ≡ runs (all_members self.entry.part.now) 0 (word place new skip (coming children.entry)) }
     {

@@ -19,7 +19,7 @@ impl<'a> Rows<'a> {
     ghost use Rattle.document_rows.specs.Coming.{coming};
 
     /// Row i.
-    pub fn row(self, i: usize) -> &'a [u8]
+    pub(crate) fn row(self, i: usize) -> &'a [u8]
         requires { i ≤ 4096 }
         ensures { result.now ≡ record_at (row_size self.entry.width) i self.entry.bytes.now }
     {
@@ -27,7 +27,7 @@ impl<'a> Rows<'a> {
     }
 
     /// The rows of a sort right below row i.
-    pub fn below(self, i: usize, sort: u8) -> Children<'a>
+    pub(crate) fn below(self, i: usize, sort: u8) -> Children<'a>
         requires { i ≤ 4096 }
         ensures { coming result ≡ children_below self.entry.width self.entry.bytes.now self.entry.count sort i }
     {

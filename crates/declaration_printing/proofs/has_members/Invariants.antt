@@ -17,6 +17,3 @@ use Rattle.declaration_printing.proofs.has_members.Given as goal
 -- `from` on.
 abbrev pub invariant-loop-i : goal.invariant-loop-i
 invariant-loop-i l = is_tree (build (particles_from l.store l.end l.i) 0) ≡ is_tree (build (particles_from l.store l.end l.from) 0)
-
-abbrev pub decreases-loop-i : goal.decreases-loop-i
-decreases-loop-i l = l.end - l.i

@@ -163,14 +163,11 @@ pub fn put_attributes(store: &[u8], o: usize, owner: &[u8], out: &mut [u8], star
 {
     let count = layout::attribute_count(store);
     let mut at = start;
-    let mut i = 0;
-    while i < count {
-        if layout::attribute_owner(printing_parts::attribute(store, i)) == o {
-            at = put_attribute_line(store, i, owner, out, at);
-            i += 1;
-        } else {
-            i += 1;
+    for i in 0..count {
+        if layout::attribute_owner(printing_parts::attribute(store, i)) != o {
+            continue;
         }
+        at = put_attribute_line(store, i, owner, out, at);
     }
     at
 }

@@ -1,4 +1,3 @@
-pub mod SignLaws
 pub mod MemberTexts
 pub mod MemberLaws
 pub mod LineLaws

@@ -11,6 +11,7 @@ ghost use Rattle.printing_parts.specs.Walking.{TextRoom, Passed, Stepped};
 ghost use Rattle.declaration_printing.specs.Declarations.{sign_text, member_text, members_text, LaidWithin, default_text, attribute_line_text, attributes_text, is_tree, content_text, definition_text};
 
 use printing_parts::Walked;
+use rules::{GroupKind, Quantifier};
 
 // ---- marks, separators
 
@@ -19,11 +20,11 @@ fn put_mark(quantifier: u8, out: &mut [u8], at: usize) -> usize
     requires { at < 9223372036854775808 }
     ensures { Laid (mark_of (quantifier_of quantifier)) out.old at result out.new }
 {
-    match quantifier {
-        0 => at,
-        1 => codec::put_u8(out, at, b'?'),
-        2 => codec::put_u8(out, at, b'*'),
-        _ => codec::put_u8(out, at, b'+'),
+    match Quantifier::from(quantifier) {
+        Quantifier::None => at,
+        Quantifier::Qmark => codec::put_u8(out, at, b'?'),
+        Quantifier::Star => codec::put_u8(out, at, b'*'),
+        Quantifier::Plus => codec::put_u8(out, at, b'+'),
     }
 }
 
@@ -35,10 +36,10 @@ fn put_separator(kind: u8, first: bool, out: &mut [u8], at: usize) -> usize
     if first {
         return at;
     }
-    if kind < 2 {
-        return codec::put_u8(out, at, b',');
+    match GroupKind::from(kind) {
+        GroupKind::Sequence => codec::put_u8(out, at, b','),
+        GroupKind::Choice => codec::put_u8(out, at, b'|'),
     }
-    codec::put_u8(out, at, b'|')
 }
 
 // ---- content models
@@ -100,6 +101,7 @@ fn put_members(
     let mut at = start;
     let mut i = from;
     let mut first = true;
+    // A `while`: a member is any number of particles.
     while i < end {
         let d = layout::particle_depth(printing_parts::particle(store, i)) as usize;
         if d < depth {
@@ -161,14 +163,11 @@ pub fn put_attributes(store: &[u8], o: usize, owner: &[u8], out: &mut [u8], star
 {
     let count = layout::attribute_count(store);
     let mut at = start;
-    let mut i = 0;
-    while i < count {
-        if layout::attribute_owner(printing_parts::attribute(store, i)) == o {
-            at = put_attribute_line(store, i, owner, out, at);
-            i += 1;
-        } else {
-            i += 1;
+    for i in 0..count {
+        if layout::attribute_owner(printing_parts::attribute(store, i)) != o {
+            continue;
         }
+        at = put_attribute_line(store, i, owner, out, at);
     }
     at
 }
@@ -180,12 +179,10 @@ fn has_members(store: &[u8], from: usize, end: usize) -> bool
     requires { end < 4294967296 }
     ensures { result ≡ is_tree (build (particles_from store.now end from) 0) }
 {
-    let mut i = from;
-    while i < end {
+    for i in from..end {
         if layout::particle_depth(printing_parts::particle(store, i)) == 0 {
             return true;
         }
-        i += 1;
     }
     false
 }

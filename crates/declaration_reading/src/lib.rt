@@ -28,7 +28,7 @@ fn is_declaration(text: &[u8]) -> bool
 fn line_here(text: &[u8]) -> &[u8]
     ensures { result.now ≡ first_line text.now }
 {
-    let n = text_scan::length_before(text, 10);
+    let n = text_scan::length_before(text, b'\n');
     codec::first(text, n)
 }
 
@@ -36,7 +36,7 @@ fn line_here(text: &[u8]) -> &[u8]
 fn line_span(text: &[u8]) -> usize
     ensures { Spans text.now result }
 {
-    let n = text_scan::length_before(text, 10);
+    let n = text_scan::length_before(text, b'\n');
     if n < text.len() { n + 1 } else { n }
 }
 

@@ -158,6 +158,7 @@ fn put_rows(
     let mut at = start;
     let mut i = from;
     let mut opened = behind;
+    // A `while`: a row with those below it is any number of rows.
     while i < count {
         let bytes = layout::row_at(w, rows, i);
         let d = layout::row_depth(bytes) as usize;
@@ -229,6 +230,7 @@ pub fn put_documents(
 {
     let mut at = start;
     let mut i = 0;
+    // A `while`: a document is any number of rows.
     while i < count {
         if layout::row_depth(layout::row_at(w, rows, i)) == 0 {
             let line = put_document(w, store, rows, count, i, out, at);

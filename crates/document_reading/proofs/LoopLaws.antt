@@ -114,7 +114,8 @@ module _ {b : Before} {d : Declared} {rows : Option (List (Deep FlatRow))} {s op
       pub judging_refused : answer ≡ false → Judges b rows None
       judging_refused h = record { is = sym (fit_is (fit_refused b part.made made m left h)); counts = tt }
 
-      pub judging_on : {t' : Bytes} → answer ≡ true → k.progress.count ≤ 4096 → length opened' ≡ 256 → t' ≡ drop k.size t → Judging b d rows s' opened' k.progress.depth k.progress.tag k.progress.count t'
+      pub judging_on : {t' : Bytes} → answer ≡ true → k.progress.count ≤ 4096 → length opened' ≡ 256 → t' ≡ drop k.size t
+          → Judging b d rows s' opened' k.progress.depth k.progress.tag k.progress.count t'
       judging_on h few stack g =
           let goes : fit_from b m s (rows_here b.width d m opened depth tag t) ≡ fit_from b k.progress.count s' left =
           ap (fit_from b m s) part.rows ∙ fit_after b part.made made m left h ∙ ap (λ (z : ℕ). fit_from b z s' left) part.counted in

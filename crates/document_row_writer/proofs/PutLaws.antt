@@ -8,7 +8,7 @@ use mathlib.Core.List.{List, [], ◌∷◌, ◌++◌, append-nil}
 use Prim.Native.Nat.{ℕ, ◌+◌, ◌<◌, ◌≤◌}
 use native.Mathlib.Omega.{arith}
 use native.Mathlib.Nat.{add-zero}
-use borrow.Author.Tests.{eq-eqb, ne_eqb, ltb-true, ltb-false}
+use borrow.Author.Tests.{ltb-true, ltb-false}
 use mathlib.Core.Logic.{◌⊎◌, inl, inr, ⊎_elim}
 use lib.Dec.{eqb, ltb}
 use lib.ListN.{length, take, drop, length-append, length-drop}
@@ -21,8 +21,6 @@ use Rattle.rules.proofs.Words.{and_split}
 use Rattle.rules.proofs.LayoutLaws.{each_append}
 use Rattle.codec.specs.Laid.{Laid}
 use Rattle.codec.proofs.Writers.{laid_none, laid_then, laid_as}
-use Rattle.layout.specs.Bodies.{Width}
-use Rattle.layout.specs.RowBytes.{row_of, RowLaid}
 use Rattle.document_tokens.specs.Tokens.{Declared, declared_in, Token, token_at, with_rows}
 use Rattle.document_tokens.specs.Telling.{stack_of, Tells, TokenTold}
 use Rattle.document_tokens.proofs.TokenLaws.{token_fits, with_none, with_append}
@@ -30,14 +28,6 @@ use Rattle.document_row_writer.specs.Putting.{documents_in, rows_or, RowsRead, r
 use Rattle.document_row_writer.specs.declared.Written.{Written}
 use Rattle.document_row_writer.proofs.RowLaws.{rows_refused, rows_ended}
 use Rattle.document_row_writer.proofs.AfterLaws.{made_many, made_few, rows_made_lem, made_counted, rows_left_lem}
-
--- ---- the row that a token makes
-module _ (w : ℕ) {sort : ℕ} (depth index serial : ℕ) (v : Bytes) {out : Bytes} {at : ℕ} where
-  pub puts_none : sort ≡ 0 → RowsPut w (made_row sort depth index serial v) out at at out
-  puts_none e = rw (eq-eqb sort 0 e, made_row) (record { laid = laid_none; small = omega arith })
-
-  pub puts_row : {r : ℕ} {out' : Bytes} → Width w → (sort ≡ 0 → ⊥) → RowLaid w (row_of sort depth index serial v) out at r out' → RowsPut w (made_row sort depth index serial v) out at r out'
-  puts_row h e p = rw (ne_eqb sort 0 e, made_row) (record { laid = laid_as (append-nil (row_bytes w (row_of sort depth index serial v))) p.laid; small = omega (arith, p.next) })
 
 -- ---- what was read of a text
 pub part_none : {w : ℕ} {d : Declared} {txt : Bytes} {m : ℕ} {opened : Bytes} {depth : ℕ} {tag : Bool} {out : Bytes} {at : ℕ} → depth ≤ 255

@@ -1,5 +1,5 @@
--- What a token does: how many rows it makes, and the definitions that are opened after it.
-use mathlib.Core.Path.{◌≡◌, refl, sym, ap, ap₂, ◌∙◌}
+-- What a token does: the definitions that are opened after it.
+use mathlib.Core.Path.{◌≡◌, refl, ap, ap₂, ◌∙◌}
 use mathlib.Core.Bool.{Bool, true, false, ◌&&◌, not, false≢true}
 use mathlib.Core.List.{List, ◌∷◌}
 use Prim.Native.Nat.{ℕ, zero, suc, ◌+◌, ◌-◌, ◌<◌, ◌≤◌}
@@ -11,14 +11,7 @@ use lib.ListN.{length, drop, set, length-set}
 use lib.Seq.{get_or-set_same, get_or-set_other}
 use Rattle.rules.specs.Bytes.{Bytes}
 use Rattle.document_tokens.specs.Telling.{stack_of}
-use Rattle.document_row_writer.specs.Putting.{open_by, made_count, Advanced}
-
--- ---- how many rows
-pub made_none : {sort : ℕ} → sort ≡ 0 → 0 ≡ made_count sort
-made_none {sort} e = rw (eq-eqb sort 0 e, made_count)
-
-pub made_one : {sort : ℕ} → (sort ≡ 0 → ⊥) → 1 ≡ made_count sort
-made_one {sort} e = rw (ne_eqb sort 0 e, made_count)
+use Rattle.document_row_writer.specs.Putting.{open_by, Advanced}
 
 -- ---- the definitions that are opened
 stack_set : (d e : ℕ) (a : Bytes) (x : ℕ) → d ≤ e → stack_of d (set a e x) ≡ stack_of d a
@@ -47,11 +40,3 @@ module _ (tag : Bool) (a : Bytes) (depth sort index : ℕ) (long : length a ≡ 
         by true true b = absurd (false≢true b)
         by true false b = refl
         by false t b = absurd (false≢true b)
-
-    pub stays : (eqb sort 0 && not tag) ≡ false → Advanced tag a depth sort index depth a
-    stays b = record { is = rw (ne_eqb sort 1 e, open_by) (by (eqb sort 0) tag b); low = low; long = long }
-      where
-        by : (x t : Bool) → (x && not t) ≡ false → stack_of depth a ≡ elim x [ true ↦ elim t [ true ↦ stack_of depth a | false ↦ drop 1 (stack_of depth a) ] | false ↦ stack_of depth a ]
-        by true true b = refl
-        by true false b = absurd (false≢true (sym b))
-        by false t b = refl

@@ -98,6 +98,7 @@ pub record SomeRead (w : ℕ) (d : Declared) (txt : Bytes) (m : ℕ) (opened : B
   pub ends : m' < limit → length txt ≤ size
 
 -- .. or one of them is not exact, and there are no rows
-pub record SomePut (w : ℕ) (d : Declared) (txt : Bytes) (m : ℕ) (opened : Bytes) (depth : ℕ) (tag : Bool) (limit : ℕ) (out : Bytes) (at : ℕ) (r : code.Option Written) (opened' out' : Bytes) : Type 0 where
+pub record SomePut (w : ℕ) (d : Declared) (txt : Bytes) (m : ℕ) (opened : Bytes) (depth : ℕ) (tag : Bool) (limit : ℕ) (out : Bytes) (at : ℕ)
+    (r : code.Option Written) (opened' out' : Bytes) : Type 0 where
   pub is : MatchOption r (rows_here w d m opened depth tag txt ≡ none)
       (λ p. SomeRead w d txt m opened depth tag limit out at p.size p.progress.count opened' p.progress.depth p.progress.tag out' p.at)

@@ -198,7 +198,8 @@ module _ (txt : Bytes) {rest front : Bytes} {raw : ℕ} (r : rest ≡ drop 2 txt
   quote_open {w} value y h =
       record {
         is = sym
-            (ap (λ (b : Bool). starts_with (ascii "=\"") txt && (b && short_value w (unescaped 0 (quoted_raw txt)))) (ne_eqb (first_byte (after_while no_quote (drop 2 txt))) 34 (λ e. h (y ∙ quote_at ∙ e)))
+            (ap (λ (b : Bool). starts_with (ascii "=\"") txt && (b && short_value w (unescaped 0 (quoted_raw txt))))
+            (ne_eqb (first_byte (after_while no_quote (drop 2 txt))) 34 (λ e. h (y ∙ quote_at ∙ e)))
             ∙ and_false (starts_with (ascii "=\"") txt));
         told = tt;
         long = refl;
@@ -209,7 +210,8 @@ module _ (txt : Bytes) {rest front : Bytes} {raw : ℕ} (r : rest ≡ drop 2 txt
   quote_none {w} v =
       record {
         is = sym
-            (ap (λ (b : Bool). starts_with (ascii "=\"") txt && (eqb (first_byte (after_while no_quote (drop 2 txt))) 34 && b)) (sym (v.is ∙ ap (λ (l : Bytes). short_value w (unescaped 0 l)) front_is))
+            (ap (λ (b : Bool). starts_with (ascii "=\"") txt && (eqb (first_byte (after_while no_quote (drop 2 txt))) 34 && b))
+            (sym (v.is ∙ ap (λ (l : Bytes). short_value w (unescaped 0 l)) front_is))
             ∙ ap (λ (b : Bool). starts_with (ascii "=\"") txt && b) (and_false (eqb (first_byte (after_while no_quote (drop 2 txt))) 34))
             ∙ and_false (starts_with (ascii "=\"") txt));
         told = tt;
@@ -341,4 +343,5 @@ module _ (bs txt : Bytes) {rest name defs : Bytes} {n count x : ℕ} (r : rest �
 
 -- no `<` begins it
 pub element_other : (bs txt : Bytes) {x : ℕ} → x ≡ get_or txt 0 0 → (x ≡ 60 → ⊥) → Tells (element_token (declared_in bs) txt) [] None []
-element_other bs txt y h = tells_none (element_token (declared_in bs) txt) (ap (λ (b : Bool). b && ltb (element_token (declared_in bs) txt).index (length (bodies_of bs).definitions)) (ne_eqb (first_byte txt) 60 (λ e. h (y ∙ e)))) refl
+element_other bs txt y h = tells_none (element_token (declared_in bs) txt)
+    (ap (λ (b : Bool). b && ltb (element_token (declared_in bs) txt).index (length (bodies_of bs).definitions)) (ne_eqb (first_byte txt) 60 (λ e. h (y ∙ e)))) refl

@@ -45,11 +45,9 @@ fn put_form(store: &[u8], out: &mut [u8], start: usize) -> usize
     let count = layout::definition_count(store);
     let mut at = start;
     let mut from = 0;
-    let mut o = 0;
-    while o < count {
+    for o in 0..count {
         at = put_declarations(store, o, from, out, at);
         from += layout::definition_particles(printing_parts::definition(store, o)) as usize;
-        o += 1;
     }
     at
 }

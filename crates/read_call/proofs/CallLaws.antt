@@ -5,6 +5,8 @@ use native.Mathlib.Omega.{arith}
 use mathlib.Core.Path.{◌≡◌, refl, sym, ap, ◌∙◌, subst}
 use mathlib.Core.Bool.{Bool, true, false, not, ◌&&◌, false≢true}
 use mathlib.Core.Option.{Option, none, some}
+use Rattle.std.specs.Prelude as code
+use Rattle.std.specs.Prelude.{None, Some}
 use mathlib.Core.List.{List, ◌++◌}
 use lib.Dec.{leb, leb→le}
 use lib.ListN.{length, take, drop, length-append, length-take}
@@ -39,10 +41,10 @@ use Rattle.text_reading.specs.Stages.{with_documents, rows_stand, if_rows, joine
 use Rattle.read_call.specs.Reading.{Confirmed, RowsThere, documents_stored}
 
 -- ---- the form, confirmed
-pub confirm_bad : (bs txt : Bytes) {r : Bool} → not r ≡ true → r ≡ passes bs → Confirmed bs txt false 0
-confirm_bad bs txt {r} t e = record { is = sym (ap (λ (b : Bool). b && front_stands bs txt) (sym e ∙ not-true r t)); size = λ z. absurd (false≢true z) }
+pub confirm_bad : (bs txt : Bytes) {r : Bool} → not r ≡ true → r ≡ passes bs → Confirmed bs txt None
+confirm_bad bs txt {r} t e = record { is = sym (ap (λ (b : Bool). b && front_stands bs txt) (sym e ∙ not-true r t)); size = tt }
 
-pub confirm_front : (bs txt : Bytes) {r : Bool} → not r ≡ false → r ≡ passes bs → {b : Bool} {n : ℕ} → FrontOf bs txt b n → Confirmed bs txt b n
+pub confirm_front : (bs txt : Bytes) {r : Bool} → not r ≡ false → r ≡ passes bs → {o : code.Option ℕ} → FrontOf bs txt o → Confirmed bs txt o
 confirm_front bs txt {r} t e f = record { is = f.is ∙ sym (ap (λ (b : Bool). b && front_stands bs txt) (sym e ∙ not-false r t)); size = f.size }
 
 -- ---- the documents
@@ -136,29 +138,26 @@ module _ (bs rest : Bytes) (room : ℕ) where
           ap (λ (b : Bool). elim b as (λ z. Outcome) [ true ↦ unless_refused (too_long room (joined_bytes bs xs)) (joined_bytes bs xs) | false ↦ refused 19 ]) (sym (fit_stand bs xs) ∙ q)
 
 -- rows that fit are there
-rows_there : (bs rest : Bytes) {n : ℕ} → Stand bs rest true n → RowsThere bs rest n
-rows_there bs rest {n} s = record { there = (by (rows_behind bs rest) (sym s.is)).0; many = s.counts refl; few = omega (arith, s.counts refl, (by (rows_behind bs rest) (sym s.is)).1) }
+pub rows_standing : (bs rest : Bytes) {n : ℕ} → Stand bs rest (Some n) → RowsThere bs rest n
+rows_standing bs rest {n} s = record { there = (by (rows_behind bs rest) (sym s.is)).0; many = s.counts; few = omega (arith, s.counts, (by (rows_behind bs rest) (sym s.is)).1) }
   where
     by : (o : Option (List (Deep FlatRow))) → rows_fit (before_read bs) o ≡ true → (is_there o ≡ true) × (length (rows_or o) ≤ 4096)
     by none q = absurd (false≢true q)
     by (some xs) q = (refl, leb→le (length xs) 4096 (to_T (and_split (leb (length xs) 4096) _ q).0))
 
-pub rows_standing : (bs rest : Bytes) {b : Bool} {n : ℕ} → Stand bs rest b n → not b ≡ false → RowsThere bs rest n
-rows_standing bs rest {b} {n} s t = rows_there bs rest (subst (λ (z : Bool). Stand bs rest z n) (not-false b t) s)
-
-module _ (bs rest out : Bytes) {b : Bool} {n : ℕ} (s : Stand bs rest b n) where
+module _ (bs rest out : Bytes) where
   -- the documents do not stand
-  pub answer_bad : not b ≡ true → Answers (documents_outcome bs rest (length out)) out 19 0 out
-  answer_bad t = rw (outcome_bad bs rest (length out) (sym s.is ∙ not-true b t)) (record { number_is = refl; length_is = refl; buffer_is = refl })
+  pub answer_bad : Stand bs rest None → Answers (documents_outcome bs rest (length out)) out 19 0 out
+  answer_bad s = rw (outcome_bad bs rest (length out) (sym s.is)) (record { number_is = refl; length_is = refl; buffer_is = refl })
 
-  module _ (t : not b ≡ false) {start w size product : ℕ} (r : RowsBegin bs start) (v : WidthIn bs w) (z : size ≡ row_size w) (x : Product size n product) where
+  module _ {n : ℕ} (s : Stand bs rest (Some n)) {start w size product : ℕ} (r : RowsBegin bs start) (v : WidthIn bs w) (z : size ≡ row_size w) (x : Product size n product) where
     stands : rows_fit (before_read bs) (rows_behind bs rest) ≡ true
-    stands = sym s.is ∙ not-false b t
+    stands = sym s.is
 
     -- the length that is computed
     pub whole_length : start + product ≡ length (documents_stored bs rest)
     whole_length =
-        let c : n ≡ length (rows_or (rows_behind bs rest)) = s.counts (not-false b t) in
+        let c : n ≡ length (rows_or (rows_behind bs rest)) = s.counts in
         let e : product ≡ row_size (width_of bs) * length (rows_or (rows_behind bs rest)) = x.value ∙ (λ i. (z ∙ ap row_size v.value) i * c i) in
         omega (arith, stored_length bs r (rows_or (rows_behind bs rest)), e)
 

@@ -4,10 +4,11 @@ use Prim.Native.Nat.{ℕ, ◌*◌, ◌≤◌, ◌<◌}
 use native.Mathlib.Omega.{arith}
 use native.Mathlib.Nat.{zero-add, mul-zero}
 use mathlib.Core.Path.{◌≡◌, refl, sym, ap, ◌∙◌, subst}
-use mathlib.Core.Bool.{Bool, true, false, not, ◌&&◌}
+use mathlib.Core.Bool.{Bool, true, false, ◌&&◌}
+use Rattle.std.specs.Prelude.{Option, None, Some, is_some}
+use Rattle.std.proofs.lemmas.Option.{none-some}
 use lib.ListN.{length, take, drop, length-take}
 use lib.Seq.{length-sets, sets-eq, take_at}
-use borrow.Author.Tests.{not-true, not-false}
 use Rattle.rules.specs.Bytes.{Bytes}
 use Rattle.rules.specs.Layout.{base_version, value_width, row_size, flat_bytes}
 use Rattle.rules.specs.Decode.{row_count}
@@ -41,29 +42,30 @@ promised_bad txt out n l e =
 -- ---- the local array
 module _ (txt : Bytes) where
   -- read at the width that the version says
-  pub read_at_lem : {w : ℕ} → w ≡ value_width base_version → {form form' : Bytes} {r : ℕ}
+  pub read_at_lem : {w : ℕ} → w ≡ value_width base_version → {form form' : Bytes} {r : Option ℕ}
       → FormRead (flat_bytes w (declared_form base_version w txt)) (within_ceilings (declared_form base_version w txt)) form r form'
       → FormRead (declared_bytes base_version txt) (within_ceilings (declared_form base_version (value_width base_version) txt)) form r form'
   read_at_lem e {form} {form'} {r} x = subst (λ (w : ℕ). FormRead (flat_bytes w (declared_form base_version w txt)) (within_ceilings (declared_form base_version w txt)) form r form') e x
 
-  module _ {form form' : Bytes} {r : ℕ} (x : FormRead (declared_bytes base_version txt) (within_ceilings (declared_form base_version (value_width base_version) txt)) form r form') where
-    -- nothing was read
-    pub none_read : r ≡ 0 → form_stands base_version txt ≡ false
-    unfolding form_stands
-    none_read e = by (within_ceilings (declared_form base_version (value_width base_version) txt)) refl
-      where
-        by : (c : Bool) → within_ceilings (declared_form base_version (value_width base_version) txt) ≡ c
-            → (c && (passes (declared_bytes base_version txt) && front_stands (declared_bytes base_version txt) txt)) ≡ false
-        by true q = absurd (let z : ⊥ = omega (arith, e, (x.written q).next, length_flat_bytes (value_width base_version) (declared_form base_version (value_width base_version) txt)) in z)
-        by false q = refl
+  -- nothing was read
+  pub none_read : {form form' : Bytes} → FormRead (declared_bytes base_version txt) (within_ceilings (declared_form base_version (value_width base_version) txt)) form None form'
+      → form_stands base_version txt ≡ false
+  unfolding form_stands
+  none_read x = by (within_ceilings (declared_form base_version (value_width base_version) txt)) refl
+    where
+      by : (c : Bool) → within_ceilings (declared_form base_version (value_width base_version) txt) ≡ c
+          → (c && (passes (declared_bytes base_version txt) && front_stands (declared_bytes base_version txt) txt)) ≡ false
+      by true q = absurd (x.written q)
+      by false q = refl
 
-    module _ (some : (r ≡ 0) → ⊥) (room : length form ≡ 9768) where
+  module _ {form form' : Bytes} {r : ℕ} (x : FormRead (declared_bytes base_version txt) (within_ceilings (declared_form base_version (value_width base_version) txt)) form (Some r) form') where
+    module _ (room : length form ≡ 9768) where
       fits : within_ceilings (declared_form base_version (value_width base_version) txt) ≡ true
       fits = by (within_ceilings (declared_form base_version (value_width base_version) txt)) refl
         where
           by : (c : Bool) → within_ceilings (declared_form base_version (value_width base_version) txt) ≡ c → c ≡ true
           by true q = refl
-          by false q = absurd (some (x.refused q))
+          by false q = absurd (none-some r (sym (x.refused q)))
 
       no_rows : row_size (value_width base_version) * length (declared_form base_version (value_width base_version) txt).rows ≡ 0
       unfolding declared_form
@@ -104,28 +106,24 @@ module _ (txt : Bytes) where
       pub array_bare : row_count (take r form') ≡ 0
       array_bare = ap row_count lent ∙ none_there
 
-      module _ {stands : Bool} {n : ℕ} (c : Confirmed (take r form') txt stands n) where
-        confirmed : Confirmed (declared_bytes base_version txt) txt stands n
-        confirmed = subst (λ (bs : Bytes). Confirmed bs txt stands n) lent c
+      stands_is : {o : Option ℕ} → Confirmed (take r form') txt o → form_stands base_version txt ≡ is_some o
+      unfolding form_stands
+      stands_is {o} c =
+          ap (λ (b : Bool). b && (passes (declared_bytes base_version txt) && front_stands (declared_bytes base_version txt) txt)) fits
+          ∙ sym (subst (λ (bs : Bytes). Confirmed bs txt o) lent c).is
 
-        stands_is : form_stands base_version txt ≡ stands
-        unfolding form_stands
-        stands_is =
-            ap (λ (b : Bool). b && (passes (declared_bytes base_version txt) && front_stands (declared_bytes base_version txt) txt)) fits
-            ∙ sym confirmed.is
+      pub form_refused : Confirmed (take r form') txt None → form_stands base_version txt ≡ false
+      form_refused c = stands_is c
 
-        pub form_refused : not stands ≡ true → form_stands base_version txt ≡ false
-        form_refused t = stands_is ∙ not-true stands t
-
-        pub form_passes : not stands ≡ false → passes (take r form') ≡ true
-        form_passes t = (and_split (passes (take r form')) _ (sym c.is ∙ not-false stands t)).0
+      module _ {n : ℕ} (c : Confirmed (take r form') txt (Some n)) where
+        pub form_passes : passes (take r form') ≡ true
+        form_passes = (and_split (passes (take r form')) _ (sym c.is)).0
 
         -- the answer for the documents is the call's
-        pub promised_on : not stands ≡ false → {rest : Bytes} → rest ≡ drop n txt → (out : Bytes) {number len : ℕ} {left : Bytes}
+        pub promised_on : {rest : Bytes} → rest ≡ drop n txt → (out : Bytes) {number len : ℕ} {left : Bytes}
             → Answers (documents_outcome (take r form') rest (length out)) out number len left → ReadPromise base_version txt out number len left
-        promised_on t {rest} e out {number} {len} {left} a =
-            let h : stands ≡ true = not-false stands t in
-            let behind : drop n txt ≡ drop (length (declared_text base_version txt)) txt = ap (λ (k : ℕ). drop k txt) (confirmed.size h) in
+        promised_on {rest} e out {number} {len} {left} a =
+            let behind : drop n txt ≡ drop (length (declared_text base_version txt)) txt = ap (λ (k : ℕ). drop k txt) (subst (λ (bs : Bytes). Confirmed bs txt (Some n)) lent c).size in
             promised txt out
-            (rw (stages_on base_version small txt (length out) (stands_is ∙ h))
+            (rw (stages_on base_version small txt (length out) (stands_is c))
             (subst (λ (o : Outcome). Answers o out number len left) (λ i. documents_outcome (lent i) ((e ∙ behind) i) (length out)) a))

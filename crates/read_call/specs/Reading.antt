@@ -1,5 +1,5 @@
 -- What the stages of the call hand on.
-use Rattle.std.specs.Prelude.{ℕ, ◌≤◌, ◌≡◌, Bool, true, ◌&&◌, length}
+use Rattle.std.specs.Prelude.{ℕ, ◌≤◌, ◌≡◌, true, ◌&&◌, length, Option, is_some, IfSome}
 use Rattle.rules.specs.Bytes.{Bytes}
 use Rattle.rules.specs.WellFormed.{is_there}
 use Rattle.rules.specs.Passing.{passes}
@@ -9,10 +9,10 @@ use Rattle.document_row_writer.specs.Putting.{rows_or}
 use Rattle.document_reading.specs.Judging.{rows_behind}
 use Rattle.text_reading.specs.Stages.{joined_bytes}
 
--- a form that passes and is the front of a text, and how long it is there
-pub record Confirmed (bs txt : Bytes) (stands : Bool) (n : ℕ) : Type 0 where
-  pub is : stands ≡ (passes bs && front_stands bs txt)
-  pub size : stands ≡ true → n ≡ length (text_of bs)
+-- a form that passes and is the front of a text: how long it is there
+pub record Confirmed (bs txt : Bytes) (r : Option ℕ) : Type 0 where
+  pub is : is_some r ≡ (passes bs && front_stands bs txt)
+  pub size : IfSome r (λ n. n ≡ length (text_of bs))
 
 -- the rows are there, n of them
 pub record RowsThere (bs rest : Bytes) (n : ℕ) : Type 0 where

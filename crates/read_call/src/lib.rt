@@ -11,19 +11,15 @@ ghost use Rattle.reading_rules.specs.Reading.{ReadPromise};
 ghost use Rattle.text_reading.specs.Stages.{documents_outcome};
 ghost use Rattle.read_call.specs.Reading.{Confirmed, RowsThere, documents_stored};
 
-use form_front::Front;
 use store_writer::Answer;
 
-// Whether a form, which has no rows, passes and is the front of a text, and how long it is there.
-fn confirm(form: &[u8], text: &[u8]) -> Front
+// Confirms a form, which has no rows: how long its text is, if it passes and is the front of the text.
+fn confirm(form: &[u8], text: &[u8]) -> Option<usize>
     requires { row_count form.now ≡ 0 }
-    ensures { Confirmed form.now text.now result.stands result.length }
+    ensures { Confirmed form.now text.now result }
 {
     if !store_check::passes_bare(form) {
-        return Front {
-            stands: false,
-            length: 0,
-        };
+        return None;
     }
     form_front::front_of(form, text)
 }
@@ -49,16 +45,15 @@ fn read_documents(form: &[u8], text: &[u8], out: &mut [u8]) -> Answer
     requires { passes form.now ≡ true }
     ensures { Answers (documents_outcome form.now text.now (length out.old)) out.old result.number result.length out.new }
 {
-    let judged = document_reading::judge_documents(form, text);
-    if !judged.fits {
+    let Some(rows) = document_reading::judge_documents(form, text) else {
         return store_writer::refused(19);
-    }
+    };
     let w = layout::width_in(form);
-    let length = lookup::row_start(form) + layout::times(layout::row_size(w), judged.rows);
+    let length = lookup::row_start(form) + layout::times(layout::row_size(w), rows);
     if length > out.len() {
         return store_writer::refused(18);
     }
-    put_store(form, text, judged.rows, out);
+    put_store(form, text, rows, out);
     Answer { number: 0, length }
 }
 
@@ -67,13 +62,12 @@ pub fn read_text(text: &[u8], out: &mut [u8]) -> Answer
     ensures { ReadPromise base_version text.now out.old result.number result.length out.new }
 {
     let mut form = [0; 9768];
-    let size = declaration_reading::read_form(1, layout::width_of(1), text, &mut form);
-    if size == 0 {
+    let w = layout::width_of(1);
+    let Some(size) = declaration_reading::read_form(1, w, text, &mut form) else {
         return store_writer::refused(19);
-    }
-    let front = confirm(&form[..size], text);
-    if !front.stands {
+    };
+    let Some(length) = confirm(&form[..size], text) else {
         return store_writer::refused(19);
-    }
-    read_documents(&form[..size], codec::after(text, front.length), out)
+    };
+    read_documents(&form[..size], codec::after(text, length), out)
 }

@@ -4,24 +4,22 @@
 -- passed (`walk_deeper` of WalkLaws in `printing_parts`), one less deep or the end of the particles ends the text
 -- (`walk_stops`, `walk_ends`), and one of this depth is written (`walk_here`, with `members_tree` of MemberTexts).
 -- Twice the number of particles left, plus 1 for `put_members`, falls with each call.
-use borrow.Author.Rules.{rules}
 use mathlib.Core.Path.{◌≡◌, ap, ◌∙◌}
-use mathlib.Core.Bool.{true, false}
+use mathlib.Core.Bool.{false}
 use mathlib.Core.List.{List, []}
-use Prim.Native.Nat.{suc, ◌+◌, ◌*◌, ◌-◌}
+use Prim.Native.Nat.{suc, ◌+◌}
 use native.Mathlib.Omega.{arith}
 use Rattle.rules.specs.Layout.{particle_size}
 use Rattle.rules.specs.Preorder.{build}
 use Rattle.rules.specs.Decode.{group_of, read_particle}
 use Rattle.codec.proofs.Writers.{laid_none}
 use Rattle.printing_parts.specs.Parts.{particle_part, particles_from, names_of}
-use Rattle.declaration_printing.specs.Declarations.{members_text}
 use Rattle.declaration_printing.proofs.MemberTexts.{members_tree, members_bare}
 use Rattle.printing_parts.proofs.PartLaws.{particle_step}
 use Rattle.lookup.proofs.Laws.{from_none}
-use Rattle.printing_parts.proofs.WalkLaws.{Walk, walk_start, walk_deeper, walk_here, walk_stops, walk_ends}
+use Rattle.printing_parts.proofs.WalkLaws.{walk_start, walk_deeper, walk_here, walk_stops, walk_ends}
 use Rattle.declaration_printing.proofs.MemberLaws.{sign_short, element_stepped, group_stepped}
-use Prim.Native.Nat.{ℕ, ◌<◌}
+use Prim.Native.Nat.{ℕ}
 use Rattle.declaration_printing.proofs.+put_member_put_members.Goals as goal
 
 pub put_member-put-named-requires : goal.put_member-put-named-requires

@@ -1,10 +1,9 @@
 -- `declaration_printing::has_members` meets its contract: a particle of depth 0 is a member (`build_same` of
 -- PreorderLaws in `rules`), a deeper one leaves the answer to the particles after it (`build_less`), and past the last
 -- there is no member (`from_none` of Laws in `lookup`).
-use borrow.Author.Rules.{rules}
 use mathlib.Core.Path.{◌≡◌, refl, sym, ap, ◌∙◌}
 use mathlib.Core.List.{List}
-use Prim.Native.Nat.{ℕ, ◌-◌, ◌+◌}
+use Prim.Native.Nat.{ℕ, ◌+◌}
 use native.Mathlib.Omega.{arith}
 use Rattle.rules.specs.Preorder.{Deep, build}
 use Rattle.rules.specs.Layout.{particle_size, FlatParticle}

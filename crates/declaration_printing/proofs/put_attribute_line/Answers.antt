@@ -2,7 +2,6 @@
 -- line of the attribute, in at most 3000 bytes (`attribute_line_lem` of LineLaws).
 use native.Mathlib.Omega.{arith}
 use Rattle.declaration_printing.proofs.LineLaws.{attribute_line_lem}
-use borrow.Author.Rules.{rules}
 use Rattle.declaration_printing.proofs.put_attribute_line.Goals as goal
 
 pub put_default-valued-requires : goal.put_default-valued-requires

@@ -1,15 +1,13 @@
 -- `declaration_printing::put_attributes` meets its contract: the invariant holds at first (`listing_start` of
 -- LineLaws), after the line of an attribute of definition o (`listing_this`) and after any other (`listing_other`);
 -- past the last all are written (`listing_done`). The places are in range, as each of at most 64 adds at most 3000.
-use borrow.Author.Rules.{rules}
 use mathlib.Core.Path.{◌≡◌, sym, ap, ◌∙◌}
 use mathlib.Core.List.{List}
-use Prim.Native.Nat.{ℕ, ◌-◌}
+use Prim.Native.Nat.{ℕ}
 use native.Mathlib.Omega.{arith}
-use Rattle.rules.specs.Decode.{of_owner, read_attribute, attribute_count}
-use Rattle.printing_parts.specs.Parts.{attributes_from, attribute_part}
-use Rattle.declaration_printing.specs.Declarations.{attributes_text}
-use Rattle.declaration_printing.proofs.LineLaws.{Listing, listing_start, listing_this, listing_other, listing_done}
+use Rattle.rules.specs.Decode.{read_attribute}
+use Rattle.printing_parts.specs.Parts.{attribute_part}
+use Rattle.declaration_printing.proofs.LineLaws.{listing_start, listing_this, listing_other, listing_done}
 use Rattle.declaration_printing.proofs.put_attributes.Goals as goal
 
 pub loop-i-init : goal.loop-i-init
@@ -27,19 +25,19 @@ put_attribute_line-at-requires c = (
   c.requires.0,
 )
 
-pub loop-i-preserved-then-attribute_owner-o : goal.loop-i-preserved-then-attribute_owner-o
-loop-i-preserved-then-attribute_owner-o c =
-    let a = c.args in
-    let d : c.attribute_owner.result ≡ (read_attribute (attribute_part a.store.now c.loop-i.i)).owner =
-    c.attribute_owner.ensures ∙ ap (λ (b : List ℕ). (read_attribute b).owner) c.attribute.ensures in
-    listing_this a.store.now a.owner.now a.o _ c.loop-i.invariant (omega arith) (sym d ∙ c.if-attribute_owner-o.true) c.put_attribute_line-at.ensures
-
 pub loop-i-preserved : goal.loop-i-preserved
 loop-i-preserved c =
     let a = c.args in
     let d : c.attribute_owner.result ≡ (read_attribute (attribute_part a.store.now c.loop-i.i)).owner =
     c.attribute_owner.ensures ∙ ap (λ (b : List ℕ). (read_attribute b).owner) c.attribute.ensures in
-    listing_other a.store.now a.owner.now a.o _ c.loop-i.invariant (omega arith) (λ e. c.if-attribute_owner-o.false (d ∙ e))
+    listing_this a.store.now a.owner.now a.o _ c.loop-i.invariant (omega arith) (sym d ∙ c.if-attribute_owner-o.false) c.put_attribute_line-at.ensures
+
+pub loop-i-preserved-then-attribute_owner-o : goal.loop-i-preserved-then-attribute_owner-o
+loop-i-preserved-then-attribute_owner-o c =
+    let a = c.args in
+    let d : c.attribute_owner.result ≡ (read_attribute (attribute_part a.store.now c.loop-i.i)).owner =
+    c.attribute_owner.ensures ∙ ap (λ (b : List ℕ). (read_attribute b).owner) c.attribute.ensures in
+    listing_other a.store.now a.owner.now a.o _ c.loop-i.invariant (omega arith) (λ e. c.if-attribute_owner-o.true (d ∙ e))
 
 pub returns : goal.returns
 returns c =

@@ -1,10 +1,8 @@
 -- `declaration_printing::put_content` meets its contract: each return has its law in LineLaws, by the kind and by
 -- whether there are members (`content_empty_laid`, `content_pcdata_laid`, `content_none_laid`, `content_some_laid`).
-use borrow.Author.Tests.{not-true, not-false}
 use Rattle.rules.specs.Preorder.{build}
 use Rattle.printing_parts.specs.Parts.{particles_from, names_of}
 use Rattle.declaration_printing.proofs.LineLaws.{content_empty_laid, content_pcdata_laid, content_none_laid, content_some_laid}
-use borrow.Author.Rules.{rules}
 use Rattle.declaration_printing.proofs.put_content.Goals as goal
 
 pub returns-then-kind-eq0 : goal.returns-then-kind-eq0

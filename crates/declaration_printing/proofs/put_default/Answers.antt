@@ -5,7 +5,6 @@
 use native.Mathlib.Omega.{arith}
 use Rattle.declaration_printing.proofs.LineLaws.{default_implied, default_required, default_fixed, default_short}
 use Rattle.escaping.proofs.Laws.{escape_length}
-use borrow.Author.Rules.{rules}
 use Rattle.declaration_printing.proofs.put_default.Goals as goal
 
 pub returns-then-sort-eq0 : goal.returns-then-sort-eq0

@@ -2,7 +2,6 @@
 -- of the definition, in at most 641000 bytes (`definition_laid` of LineLaws).
 use native.Mathlib.Omega.{arith}
 use Rattle.declaration_printing.proofs.LineLaws.{definition_laid}
-use borrow.Author.Rules.{rules}
 use Rattle.declaration_printing.proofs.put_definition.Goals as goal
 
 pub definition-requires : goal.definition-requires

@@ -53,10 +53,6 @@ pub overflow_add-from : goal.overflow_add-from
 overflow_add-from c =
     omega (arith, c.requires.0.definitions, c.requires.1, c.loop-o.invariant.counts, c.loop-o.invariant.upto, c.loop-o.invariant.small, c.loop-o.invariant.few)
 
-pub overflow_add-o : goal.overflow_add-o
-overflow_add-o c =
-    omega (arith, c.requires.0.definitions, c.requires.1, c.loop-o.invariant.counts, c.loop-o.invariant.upto, c.loop-o.invariant.small, c.loop-o.invariant.few)
-
 pub loop-o-preserved : goal.loop-o-preserved
 loop-o-preserved c =
     let a = c.args in

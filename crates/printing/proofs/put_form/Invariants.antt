@@ -15,6 +15,3 @@ invariant-loop-o l =
     (form_text (names_of l.store) 0 (definitions_from l.store (definition_count l.store) 0) (particles_from l.store (particle_count l.store) 0)
     (attributes_from l.store (attribute_count l.store) 0))
     l.initial.out l.start l.out l.at l.o l.from
-
-abbrev pub decreases-loop-o : goal.decreases-loop-o
-decreases-loop-o l = l.count - l.o

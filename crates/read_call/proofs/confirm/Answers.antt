@@ -1,8 +1,6 @@
 -- `read_call::confirm` meets its contract: a form that does not pass is not confirmed (`confirm_bad` of CallLaws), one
 -- that passes is if it is the front of the text (`confirm_front`).
 use mathlib.Core.Bool.{not}
-use borrow.Author.Rules.{rules}
-use borrow.Author.Tests.{not-false}
 use mathlib.Core.Path.{sym, ◌∙◌, ap}
 use Rattle.read_call.proofs.CallLaws.{confirm_bad, confirm_front}
 use Rattle.read_call.proofs.confirm.Goals as goal

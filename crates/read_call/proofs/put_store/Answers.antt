@@ -2,7 +2,6 @@
 -- (`own_form` of FormLaws in `store_laws`), as `put_form` requires (`heads_of` of EditedLaws in `plan_writer`); header,
 -- form and the rows behind them are the store of both (`stored_documents` of CallLaws).
 use native.Mathlib.Omega.{arith}
-use borrow.Author.Rules.{rules}
 use Rattle.layout.proofs.LayoutLaws.{width_within}
 use Rattle.store_laws.proofs.StoreLaws.{holds}
 use Rattle.store_laws.proofs.FormLaws.{start_within}

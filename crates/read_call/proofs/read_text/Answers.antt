@@ -2,57 +2,54 @@
 -- (`none_read`, `form_refused`, `promised_bad` of TextLaws); else the answer for the documents is the call's
 -- (`promised_on`). What is lent of the local array is the form (`array_room`, `array_lent`), and has no rows
 -- (`array_bare`).
-use mathlib.Core.Path.{ap}
-use mathlib.Core.Bool.{not}
 use native.Mathlib.Omega.{arith}
 use Prim.Native.Nat.{ℕ}
 use lib.ListN.{length-replicate}
-use borrow.Author.Rules.{rules}
 use Rattle.rules.specs.Layout.{base_version}
 use Rattle.rules.proofs.DecodeLaws.{width_most}
 use Rattle.read_call.proofs.TextLaws.{promised_bad, read_at_lem, none_read, array_room, array_lent, array_bare, form_refused, form_passes, promised_on}
 use Rattle.read_call.proofs.read_text.Goals as goal
 
-pub read_form-size-requires : goal.read_form-size-requires
-read_form-size-requires c = omega (arith, c.width_of.ensures, width_most base_version)
+pub read_form-requires : goal.read_form-requires
+read_form-requires c = omega (arith, c.width_of-w.ensures, width_most base_version)
 
-pub returns-then-size-eq0 : goal.returns-then-size-eq0
-returns-then-size-eq0 c =
+pub returns-in_default : goal.returns-in_default
+returns-in_default c =
     promised_bad c.args.text.now c.args.out.now c.refused.ensures.0 c.refused.ensures.1
-    (none_read c.args.text.now (read_at_lem c.args.text.now c.width_of.ensures c.read_form-size.ensures) c.if-size-eq0.true)
+    (none_read c.args.text.now (read_at_lem c.args.text.now c.width_of-w.ensures c.in_default.ensures))
 
 pub slice_bounds-form-end : goal.slice_bounds-form-end
 slice_bounds-form-end c =
-    array_room c.args.text.now (read_at_lem c.args.text.now c.width_of.ensures c.read_form-size.ensures) c.if-size-eq0.false (length-replicate {A = ℕ} 9768 0)
+    array_room c.args.text.now (read_at_lem c.args.text.now c.width_of-w.ensures c.in-Some.ensures) (length-replicate {A = ℕ} 9768 0)
 
 pub slice_bounds-confirm-end : goal.slice_bounds-confirm-end
 slice_bounds-confirm-end c =
-    array_lent c.args.text.now (read_at_lem c.args.text.now c.width_of.ensures c.read_form-size.ensures) c.if-size-eq0.false (length-replicate {A = ℕ} 9768 0)
+    array_lent c.args.text.now (read_at_lem c.args.text.now c.width_of-w.ensures c.in-Some.ensures) (length-replicate {A = ℕ} 9768 0)
 
-pub confirm-front-requires : goal.confirm-front-requires
-confirm-front-requires c =
-    array_bare c.args.text.now (read_at_lem c.args.text.now c.width_of.ensures c.read_form-size.ensures) c.if-size-eq0.false (length-replicate {A = ℕ} 9768 0)
+pub confirm-requires : goal.confirm-requires
+confirm-requires c =
+    array_bare c.args.text.now (read_at_lem c.args.text.now c.width_of-w.ensures c.in-Some.ensures) (length-replicate {A = ℕ} 9768 0)
 
-pub returns-then-not-front : goal.returns-then-not-front
-returns-then-not-front c =
-    promised_bad c.args.text.now c.args.out.now c.refused-then-not-front.ensures.0 c.refused-then-not-front.ensures.1
-    (form_refused c.args.text.now (read_at_lem c.args.text.now c.width_of.ensures c.read_form-size.ensures) c.if-size-eq0.false
-    (length-replicate {A = ℕ} 9768 0) c.confirm-front.ensures c.if-not-front.true)
+pub returns-in_default-confirm : goal.returns-in_default-confirm
+returns-in_default-confirm c =
+    promised_bad c.args.text.now c.args.out.now c.refused-in_default-confirm.ensures.0 c.refused-in_default-confirm.ensures.1
+    (form_refused c.args.text.now (read_at_lem c.args.text.now c.width_of-w.ensures c.in-Some.ensures)
+    (length-replicate {A = ℕ} 9768 0) c.in_default-confirm.ensures)
 
 pub slice_bounds-form-end-2 : goal.slice_bounds-form-end-2
 slice_bounds-form-end-2 c =
-    array_room c.args.text.now (read_at_lem c.args.text.now c.width_of.ensures c.read_form-size.ensures) c.if-size-eq0.false (length-replicate {A = ℕ} 9768 0)
+    array_room c.args.text.now (read_at_lem c.args.text.now c.width_of-w.ensures c.in-Some.ensures) (length-replicate {A = ℕ} 9768 0)
 
 pub slice_bounds-read_documents-end : goal.slice_bounds-read_documents-end
 slice_bounds-read_documents-end c =
-    array_lent c.args.text.now (read_at_lem c.args.text.now c.width_of.ensures c.read_form-size.ensures) c.if-size-eq0.false (length-replicate {A = ℕ} 9768 0)
+    array_lent c.args.text.now (read_at_lem c.args.text.now c.width_of-w.ensures c.in-Some.ensures) (length-replicate {A = ℕ} 9768 0)
 
 pub read_documents-requires : goal.read_documents-requires
 read_documents-requires c =
-    form_passes c.args.text.now (read_at_lem c.args.text.now c.width_of.ensures c.read_form-size.ensures) c.if-size-eq0.false
-    (length-replicate {A = ℕ} 9768 0) c.confirm-front.ensures c.if-not-front.false
+    form_passes c.args.text.now (read_at_lem c.args.text.now c.width_of-w.ensures c.in-Some.ensures)
+    (length-replicate {A = ℕ} 9768 0) c.in-Some-confirm.ensures
 
 pub returns : goal.returns
 returns c =
-    promised_on c.args.text.now (read_at_lem c.args.text.now c.width_of.ensures c.read_form-size.ensures) c.if-size-eq0.false
-    (length-replicate {A = ℕ} 9768 0) c.confirm-front.ensures c.if-not-front.false c.after.ensures c.args.out.now c.read_documents.ensures
+    promised_on c.args.text.now (read_at_lem c.args.text.now c.width_of-w.ensures c.in-Some.ensures)
+    (length-replicate {A = ℕ} 9768 0) c.in-Some-confirm.ensures c.after.ensures c.args.out.now c.read_documents.ensures

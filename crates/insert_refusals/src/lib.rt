@@ -18,7 +18,14 @@ use model::place::{Found, Holder};
 use rules::{GroupKind, Refusal};
 
 // From row 9 on. `needed`: NONE or PLUS; `unfilled`: the default is empty; `off`: the place is in a LIST off the spine.
-fn model_refusal(store: &[u8], o: usize, i: usize, needed: bool, unfilled: bool, off: bool) -> Result<(), Refusal>
+fn model_refusal(
+    store: &[u8],
+    o: usize,
+    i: usize,
+    needed: bool,
+    unfilled: bool,
+    off: bool,
+) -> Result<(), Refusal>
     requires { (passes store.now ≡ true) × (o < definition_count store.now) × (i < definition_count store.now) }
     ensures { number_given result ≡ first (model_conditions o i needed unfilled off (store_in store.now)) }
 {
@@ -106,5 +113,5 @@ pub fn insert_element_refusal(
         return Err(Refusal::Unknown);
     }
     let needed = needs_filling(quantifier);
-    place_refusal(store, o, place, i, needed, text.is_empty())
+    place_refusal(store, o, place, i, needed, text.len() == 0)
 }

@@ -2,7 +2,7 @@
 use Prim.Native.Nat.{ℕ, zero, suc, ◌<◌, ◌≤◌}
 use native.Mathlib.Omega.{arith}
 use mathlib.Core.Path.{◌≡◌, refl, sym, ap, ap₂, ◌∙◌, subst}
-use mathlib.Core.Bool.{Bool, true, false, not, ◌&&◌, ◌||◌, and-false}
+use mathlib.Core.Bool.{Bool, true, false, not, ◌&&◌, ◌||◌, and-false, and-true}
 use mathlib.Core.Option.{Option, none, some}
 use mathlib.Core.List.{List, [], ◌∷◌}
 use lib.Dec.{eqb}
@@ -26,14 +26,14 @@ use Rattle.rules.proofs.BooleanLaws.{none_long}
 use Rattle.layout.specs.Bodies.{width_of, WidthIn, Number, definitions_in, tree_rows_in}
 use Rattle.model.specs.declared.place.Holder.{Holder}
 use Rattle.model.specs.declared.place.Found.{Found}
-use Rattle.model.specs.declared.place.Found.TheVariants.{At, Absent}
+use Rattle.std.specs.Prelude.{Option as Maybe, Some, None}
 use Rattle.model.specs.Places.{place_in}
 use Rattle.form_index.specs.Reading.{definition_in}
 use Rattle.store_laws.specs.Stores.{store_in}
 use Rattle.store_check.proofs.StoreFacts.{form_in, bad_text_lem, fine_text, past_definitions, within_definitions}
 use Rattle.change_laws.specs.FirstCondition.{Gives}
 use Rattle.change_laws.proofs.FirstCondition.{gives_hit, gives_next, gives_none}
-use Rattle.instance_search.specs.Instances.{instance_row}
+use Rattle.instance_search.specs.Instances.{has_instance}
 use Rattle.model_places.specs.Placing.{model_in, part_in, found_by, Placed}
 use Rattle.instance_search.proofs.InstanceLaws.{instance_is}
 use Rattle.model_places.proofs.PlaceLaws.{found_insert, absent, present_at}
@@ -88,36 +88,35 @@ module _ (bs : Bytes) (w : Reads bs) (o i : ℕ) (lo : o < definition_count bs) 
               last (ap (λ (z : Bool). instance_exists (name_at_index o (form_in bs)) (store_in bs) && z) (not-true (needed && off) f)
               ∙ and-false (instance_exists (name_at_index o (form_in bs)) (store_in bs))) (gives_next refl gives_none)
 
-          module _ (off-is : not (needed && off) ≡ false) {d : Bool} (e13 : d ≡ any (instance_row o) (read_many read_row (row_size (width_of bs)) (row_count bs) (tree_rows_in bs))) where
-            there : (z : Bool) → d ≡ z → (instance_exists (name_at_index o (form_in bs)) (store_in bs) && (needed && off)) ≡ (z && true)
-            there z f = ap₂ (λ (u v : Bool). u && v) (sym (instance_is bs w.whole o (omega (arith, size bs w))) ∙ test_is e13 f) (not-false (needed && off) off-is)
+          module _ (off-is : not (needed && off) ≡ false) where
+            there : (instance_exists (name_at_index o (form_in bs)) (store_in bs) && (needed && off)) ≡ has_instance bs o
+            there =
+                ap₂ (λ (u v : Bool). u && v) (sym (instance_is bs w.whole o (omega (arith, size bs w)))) (not-false (needed && off) off-is)
+                ∙ and-true (has_instance bs o)
 
-            pub model_13 : d ≡ true → Result 13
-            model_13 f = last (there true f) (gives_hit refl)
-
-            pub model_none : d ≡ false → Result 0
-            model_none f = last (there false f) (gives_next refl gives_none)
+            pub model_13 : {n : ℕ} → n ≡ first (13 if has_instance bs o ∷ []) → Result n
+            model_13 e = last there (record { is = e })
 
 -- ---- from row 8 on
 module _ (bs : Bytes) (o i : ℕ) (needed unfilled : Bool) (place : List ℕ) where
   abbrev pub spot : Option (Spot Bytes)
   spot = found_by true place (model_in bs o)
 
-  module _ (pass : passes bs ≡ true) (lo : o < definition_count bs) {part : Bytes} (own : part ≡ part_in bs o) {found : Found} (e : found ≡ place_in true place part) where
+  module _ (pass : passes bs ≡ true) (lo : o < definition_count bs) {part : Bytes} (own : part ≡ part_in bs o) {found : Maybe Found} (e : found ≡ place_in true place part) where
     find_is : place_in true place (part_in bs o) ≡ found
     find_is = sym (e ∙ ap (place_in true place) own)
 
-    pub place_8 : found ≡ Absent → Gives 8 (place_conditions spot o i needed unfilled (store_in bs))
+    pub place_8 : found ≡ None → Gives 8 (place_conditions spot o i needed unfilled (store_in bs))
     place_8 q = gives_hit (ap no_place (absent bs pass o lo true place (find_is ∙ q)))
 
-    pub place_there : {h : Holder} {p : ℕ} → found ≡ At h p → Placed bs o true place h p
-    place_there {h} {p} q = present_at bs pass o lo true place h p (find_is ∙ q)
+    pub place_there : {f : Found} → found ≡ Some f → Placed bs o true place f.holder f.particle
+    place_there {f} q = present_at bs pass o lo true place f.holder f.particle (find_is ∙ q)
 
-    pub place_on : {h : Holder} {p : ℕ} → found ≡ At h p → {off : Bool} → off ≡ (same_kind h.kind Sequence && not h.spine) → {r : ℕ}
+    pub place_on : {f : Found} → found ≡ Some f → {off : Bool} → off ≡ (same_kind f.holder.kind Sequence && not f.holder.spine) → {r : ℕ}
         → r ≡ first (model_conditions o i needed unfilled off (store_in bs)) → Gives r (place_conditions spot o i needed unfilled (store_in bs))
-    place_on {h} {p} q {off} f {r} g =
-        let x : Placed bs o true place h p = place_there q in
-        let d : off ≡ off_spine spot = f ∙ ap₂ (λ (k : GroupKind) (b : Bool). same_kind k Sequence && not b) x.kind x.spine ∙ sym (ap off_spine x.there) in
+    place_on {f} q {off} w {r} g =
+        let x : Placed bs o true place f.holder f.particle = place_there q in
+        let d : off ≡ off_spine spot = w ∙ ap₂ (λ (k : GroupKind) (b : Bool). same_kind k Sequence && not b) x.kind x.spine ∙ sym (ap off_spine x.there) in
         gives_next (ap no_place x.there) (record { is = g ∙ ap (λ (b : Bool). first (model_conditions o i needed unfilled b (store_in bs))) d })
 
 -- ---- all

@@ -113,5 +113,5 @@ pub fn insert_element_refusal(
         return Err(Refusal::Unknown);
     }
     let needed = needs_filling(quantifier);
-    place_refusal(store, o, place, i, needed, text.is_empty())
+    place_refusal(store, o, place, i, needed, text.len() == 0)
 }

@@ -2,8 +2,8 @@
 use Prim.Native.Nat.{ℕ, ◌<◌, ◌≤◌}
 use native.Mathlib.Omega.{arith}
 use borrow.Author.Tests.{lt-ltb, le-ltb, ltb-true, ltb-false, not-false}
-use mathlib.Core.Path.{◌≡◌, refl, sym, ap, ap₂, ◌∙◌}
-use mathlib.Core.Bool.{Bool, true, false, ◌&&◌, ◌||◌, not, false≢true, or-false}
+use mathlib.Core.Path.{◌≡◌, refl, sym, ap, ap₂, ◌∙◌, subst}
+use mathlib.Core.Bool.{Bool, true, false, ◌&&◌, ◌||◌, not, false≢true, or-false, beq}
 use mathlib.Core.Option.{Option, none, some}
 use mathlib.Core.List.{List, [], ◌∷◌}
 use lib.Dec.{eqb, ltb}
@@ -28,7 +28,16 @@ use Rattle.store_check.proofs.StoreFacts.{form_in, Whole, bad_text_lem, fine_tex
 use Rattle.change_laws.specs.FirstCondition.{Gives}
 use Rattle.change_laws.proofs.FirstCondition.{gives_hit, gives_next, gives_none}
 use Rattle.instance_search.specs.Instances.{has_instance}
-use Rattle.model_places.specs.Placing.{model_in, found_by, ElementAt, GroupAt}
+use Rattle.std.specs.Prelude.{Option as Maybe, Some}
+use Rattle.rules.specs.Given.{refusal_number}
+use Rattle.rules.specs.declared.Refusal.{Refusal}
+use Rattle.rules.specs.declared.Refusal.TheVariants.{BadStore, BadName, BadValue, BadCode, Taken, Unknown, NoRow, NoPlace, WrongKind, InUse, Round}
+use Rattle.rules.specs.declared.Refusal.TheVariants.{Default, OffSpine, Grouping, NoMatch, Ceiling, Serials, Buffer, BadText}
+use Rattle.model.specs.declared.What.{What}
+use Rattle.model.specs.declared.What.TheVariants.{Element, Group}
+use Rattle.model_places.specs.declared.Picked.{Picked}
+use Rattle.model_places.specs.Placing.{model_in, found_by, Placed, ElementAt, GroupAt, Picking}
+use Rattle.model_places.proofs.PickLaws.{as_element, as_group}
 use Rattle.quantifier_refusals.specs.Requantifying.{is_off, early_tests, quantifier_tests, requantify}
 use Rattle.model_places.proofs.PlaceLaws.{found_quantify}
 use Rattle.instance_search.proofs.InstanceLaws.{instance_is}
@@ -100,14 +109,45 @@ module _ (exists spine : Bool) (old new : Quantifier) (t : Bytes) (is_group : Bo
     pub at_exists : not b ≡ false → {x : ℕ} → x ≡ first (13 if exists ∷ []) → Gives x (quantifier_tests exists spine old new t is_group)
     at_exists k z = gives_next (gain_is h) (record { is = z ∙ ap (λ (v : Bool). first (13 if v ∷ [])) (sym (and_held exists _ (sym f ∙ not-false b k))) })
 
-pub gains_read : (old new : Quantifier) {a b : Bool} → a ≡ skips new → b ≡ skips old → (not a && b) ≡ gains old new
-gains_read old new e f = ap₂ (λ (x y : Bool). not x && y) e f
+-- a refusal has a number
+pub some_refusal : (r : Refusal) → refusal_number r ≡ 0 → ⊥
+some_refusal BadStore e = absurd (omega (arith, e))
+some_refusal BadName e = absurd (omega (arith, e))
+some_refusal BadValue e = absurd (omega (arith, e))
+some_refusal BadCode e = absurd (omega (arith, e))
+some_refusal Taken e = absurd (omega (arith, e))
+some_refusal Unknown e = absurd (omega (arith, e))
+some_refusal NoRow e = absurd (omega (arith, e))
+some_refusal NoPlace e = absurd (omega (arith, e))
+some_refusal WrongKind e = absurd (omega (arith, e))
+some_refusal InUse e = absurd (omega (arith, e))
+some_refusal Round e = absurd (omega (arith, e))
+some_refusal Default e = absurd (omega (arith, e))
+some_refusal OffSpine e = absurd (omega (arith, e))
+some_refusal Grouping e = absurd (omega (arith, e))
+some_refusal NoMatch e = absurd (omega (arith, e))
+some_refusal Ceiling e = absurd (omega (arith, e))
+some_refusal Serials e = absurd (omega (arith, e))
+some_refusal Buffer e = absurd (omega (arith, e))
+some_refusal BadText e = absurd (omega (arith, e))
 
-pub cuts_read : (old new : Quantifier) {a b : Bool} → a ≡ many old → b ≡ many new → (a && not b) ≡ cuts old new
-cuts_read old new e f = ap₂ (λ (x y : Bool). x && not y) e f
+-- two tests that are the same, or not
+pub same_test : (a b : Bool) → not (beq a b) ≡ false → a ≡ b
+same_test true true e = refl
+same_test true false e = absurd (false≢true (sym e))
+same_test false true e = absurd (false≢true (sym e))
+same_test false false e = refl
 
-pub off_read : (spine : Bool) (old new : Quantifier) (is_group : Bool) {a b : Bool} → a ≡ relaxes old new → b ≡ cuts old new → ((not a && not spine) || (is_group && b)) ≡ is_off spine old new is_group
-off_read spine old new is_group e f = ap₂ (λ (x y : Bool). (not x && not spine) || (is_group && y)) e f
+pub other_test : (a b : Bool) → not (beq a b) ≡ true → a ≡ b → ⊥
+other_test true true e z = false≢true e
+other_test true false e z = false≢true (sym z)
+other_test false true e z = false≢true z
+other_test false false e z = false≢true e
+
+-- whether it is a group
+abbrev pub is_group : What → Bool
+is_group (Element i) = false
+is_group (Group k n) = true
 
 -- ---- the conditions
 module _ (bs : Bytes) (w : Whole bs) (o : ℕ) (p : List ℕ) (q : ℕ) (t : Bytes) {r : ℕ} (f : Gives r (early_tests o q t bs)) where
@@ -189,3 +229,43 @@ module _ (bs : Bytes) (w : Whole bs) (o : ℕ) (p : List ℕ) (q : ℕ) (t : Byt
         on_early (gives_next (ap no_group_at e ∙ ap (on_group true (λ q. false)) x.is)
         (record { is = y.is ∙ sym (λ j. first (12 if (gain j && is_none t) ∷ 13 if (sym exists_is j && off j) ∷ [])) }))
     group_there false b {l} {n} {old} {new} x i {s} y = absurd (false≢true b)
+
+    -- the one that is picked, by whether a group is asked for
+    module _ (g : Bool) {s : Maybe Picked} (x : Picking bs o p s) {y : Picked} (e : s ≡ Some y) where
+      pub requantify_other : (is_group y.member.what ≡ g → ⊥) → Gives 8 (conditions (requantify g o p q t) (store_in bs))
+      requantify_other other = by y.member.what refl
+        where
+          is_true : (b : Bool) → (false ≡ b → ⊥) → b ≡ true
+          is_true true n = refl
+          is_true false n = absurd (n refl)
+
+          is_false : (b : Bool) → (true ≡ b → ⊥) → b ≡ false
+          is_false true n = absurd (n refl)
+          is_false false n = refl
+
+          by : (v : What) → y.member.what ≡ v → Gives 8 (conditions (requantify g o p q t) (store_in bs))
+          by (Element i) v = group_element g (is_true g (λ z. other (ap is_group v ∙ z))) (as_element x e v)
+          by (Group k n) v = element_group g (is_false g (λ z. other (ap is_group v ∙ z))) (as_group x e v)
+
+      module _ (same : is_group y.member.what ≡ g) where
+        pub requantify_there : {new : Quantifier} → new ≡ quantifier_of q → {n : ℕ}
+            → Gives n (quantifier_tests (has_instance bs o) y.place.holder.spine y.member.quantifier new t g)
+            → Gives n (conditions (requantify g o p q t) (store_in bs))
+        requantify_there {new} i {n} tests = by y.member.what refl
+          where
+            by : (v : What) → y.member.what ≡ v → Gives n (conditions (requantify g o p q t) (store_in bs))
+            by (Element j) v =
+                let z : g ≡ false = sym same ∙ ap is_group v in
+                element_there g z (as_element x e v) i
+                (subst (λ (b : Bool). Gives n (quantifier_tests (has_instance bs o) y.place.holder.spine y.member.quantifier new t b)) z tests)
+            by (Group k m) v =
+                let z : g ≡ true = sym same ∙ ap is_group v in
+                group_there g z (as_group x e v) i
+                (subst (λ (b : Bool). Gives n (quantifier_tests (has_instance bs o) y.place.holder.spine y.member.quantifier new t b)) z tests)
+
+pub picked_placed : {bs : Bytes} {o : ℕ} {p : List ℕ} {s : Maybe Picked} (x : Picking bs o p s) {y : Picked} → s ≡ Some y → Placed bs o false p y.place.holder y.place.particle
+picked_placed {bs} {o} {p} x {y} e = by y.member.what refl
+  where
+    by : (v : What) → y.member.what ≡ v → Placed bs o false p y.place.holder y.place.particle
+    by (Element i) v = (as_element x e v).placed
+    by (Group k n) v = (as_group x e v).placed

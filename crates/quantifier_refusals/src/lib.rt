@@ -72,7 +72,7 @@ fn quantifier_at(
 ) -> Result<(), Refusal>
     ensures { Gives (number_given result) (quantifier_tests (has_instance store.now owner) spine old new text.now group) }
 {
-    if gains(old, new) & text.is_empty() {
+    if gains(old, new) & (text.len() == 0) {
         return Err(Refusal::Default);
     }
     if !is_off(spine, old, new, group) {
@@ -97,7 +97,11 @@ pub fn requantify_refusal(
     early_refusal(store, owner, quantifier, text)?;
     let new = Quantifier::from(quantifier as u8);
     let x = model_places::pick(store, owner, place).ok_or(Refusal::NoPlace)?;
-    if group != matches!(x.member.what, What::Group(_, _)) {
+    let is_group = match x.member.what {
+        What::Element(_) => false,
+        What::Group(_, _) => true,
+    };
+    if is_group != group {
         return Err(Refusal::NoPlace);
     }
     quantifier_at(

@@ -4,7 +4,6 @@
 use mathlib.Core.Path.{ap}
 use mathlib.Core.Bool.{not}
 use native.Mathlib.Omega.{arith}
-use Rattle.model_places.proofs.PickLaws.{refused_there}
 use Rattle.model_reach.proofs.FormFacts.{reads}
 use Rattle.insert_refusals.proofs.RefusalLaws.{insert_3, insert_4, insert_6, insert_6_too, insert_on}
 use borrow.Author.Rules.{rules}
@@ -12,35 +11,35 @@ use Rattle.insert_refusals.proofs.insert_element_refusal.Goals as goal
 
 pub returns-then-not-is_value : goal.returns-then-not-is_value
 returns-then-not-is_value c =
-    let a = c.args in
-    refused_there
-    (insert_3 _ (reads _ c.requires) a.owner a.place.now a.definition a.quantifier a.text.now
-    c.width_in-w.ensures c.is_value.ensures (ap not c.if-not-is_value.true))
-    c.refused.ensures (omega arith)
+    let a = c.args in (
+      (insert_3 _ (reads _ c.requires) a.owner a.place.now a.definition a.quantifier a.text.now
+          c.width_in-w.ensures c.is_value.ensures (ap not c.if-not-is_value.true)).is,
+      tt,
+    )
 
 pub returns-then-quantifier-gt3 : goal.returns-then-quantifier-gt3
 returns-then-quantifier-gt3 c =
-    let a = c.args in
-    refused_there
-    (insert_4 _ (reads _ c.requires) a.owner a.place.now a.definition a.quantifier a.text.now
-    c.width_in-w.ensures c.is_value.ensures (ap not c.if-not-is_value.false) (omega arith))
-    c.refused-then-quantifier-gt3.ensures (omega arith)
+    let a = c.args in (
+      (insert_4 _ (reads _ c.requires) a.owner a.place.now a.definition a.quantifier a.text.now
+          c.width_in-w.ensures c.is_value.ensures (ap not c.if-not-is_value.false) (omega arith)).is,
+      tt,
+    )
 
 pub returns-then-o-n : goal.returns-then-o-n
 returns-then-o-n c =
-    let a = c.args in
-    refused_there
-    (insert_6 _ (reads _ c.requires) a.owner a.place.now a.definition a.quantifier a.text.now
-    c.width_in-w.ensures c.is_value.ensures (ap not c.if-not-is_value.false) (omega arith) c.definition_count-n.ensures (omega arith))
-    c.refused-then-o-n.ensures (omega arith)
+    let a = c.args in (
+      (insert_6 _ (reads _ c.requires) a.owner a.place.now a.definition a.quantifier a.text.now
+          c.width_in-w.ensures c.is_value.ensures (ap not c.if-not-is_value.false) (omega arith) c.definition_count-n.ensures (omega arith)).is,
+      tt,
+    )
 
 pub returns-then-i-n : goal.returns-then-i-n
 returns-then-i-n c =
-    let a = c.args in
-    refused_there
-    (insert_6_too _ (reads _ c.requires) a.owner a.place.now a.definition a.quantifier a.text.now
-    c.width_in-w.ensures c.is_value.ensures (ap not c.if-not-is_value.false) (omega arith) c.definition_count-n.ensures (omega arith) (omega arith))
-    c.refused-then-i-n.ensures (omega arith)
+    let a = c.args in (
+      (insert_6_too _ (reads _ c.requires) a.owner a.place.now a.definition a.quantifier a.text.now
+          c.width_in-w.ensures c.is_value.ensures (ap not c.if-not-is_value.false) (omega arith) c.definition_count-n.ensures (omega arith) (omega arith)).is,
+      tt,
+    )
 
 pub place_refusal-requires : goal.place_refusal-requires
 place_refusal-requires c =

@@ -1,11 +1,11 @@
 -- `insert_refusals::model_refusal` meets its contract: each return gives the first condition from 9 on that holds: 9 to
 -- 12 (`model_9`, `model_10`, `model_11`, `model_12` of RefusalLaws), 0 where the element is not needed or the place not
--- off the spine (`model_on`), 13 if there is an instance (`model_13`), else 0 (`model_none`).
+-- off the spine (`model_on`), else 13 if there is an instance (`model_13`).
 use mathlib.Core.Path.{ap}
 use mathlib.Core.Bool.{not}
 use native.Mathlib.Omega.{arith}
 use Rattle.model_reach.proofs.FormFacts.{reads}
-use Rattle.insert_refusals.proofs.RefusalLaws.{model_9, model_10, model_11, model_12, model_on, model_13, model_none}
+use Rattle.insert_refusals.proofs.RefusalLaws.{model_9, model_10, model_11, model_12, model_on, model_13}
 use borrow.Author.Rules.{rules}
 use Rattle.insert_refusals.proofs.model_refusal.Goals as goal
 
@@ -50,16 +50,9 @@ pub overflow_cast-o : goal.overflow_cast-o
 overflow_cast-o c =
     omega (arith, c.requires.1, (reads c.args.store.now c.requires.0).whole.few_definitions)
 
-pub returns-then-instance_exists : goal.returns-then-instance_exists
-returns-then-instance_exists c =
+pub returns : goal.returns
+returns c =
     let a = c.args in
     (model_13 _ (reads _ c.requires.0) a.o a.i c.requires.1 a.needed a.unfilled a.off c.kind_of.ensures
     c.definitions_of.ensures c.if-kind_of-ne2.false c.in_model.ensures c.if-in_model.false c.comes_round.ensures
-    c.if-comes_round.false c.if-needed-unfilled.false (ap not c.if-not-needed-off.false) c.instance_exists.ensures c.if-instance_exists.true).is
-
-pub returns-else-instance_exists : goal.returns-else-instance_exists
-returns-else-instance_exists c =
-    let a = c.args in
-    (model_none _ (reads _ c.requires.0) a.o a.i c.requires.1 a.needed a.unfilled a.off c.kind_of.ensures
-    c.definitions_of.ensures c.if-kind_of-ne2.false c.in_model.ensures c.if-in_model.false c.comes_round.ensures
-    c.if-comes_round.false c.if-needed-unfilled.false (ap not c.if-not-needed-off.false) c.instance_exists.ensures c.if-instance_exists.false).is
+    c.if-comes_round.false c.if-needed-unfilled.false (ap not c.if-not-needed-off.false) c.instance_refusal.ensures).is

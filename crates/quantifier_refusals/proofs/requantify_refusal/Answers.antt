@@ -1,75 +1,78 @@
 -- `quantifier_refusals::requantify_refusal` meets its contract: each return gives the first condition that holds: 3, 4
 -- or 6 (`requantify_early` of QuantifierLaws), 8 at no particle or one of the other sort (`requantify_none`,
--- `group_element`, `element_group`), else what `quantifier_at` gives, with the place (`element_there`, `group_there`).
+-- `requantify_other`), else what `quantifier_at` gives (`requantify_there`), and where that is none, with the place.
+use mathlib.Core.Path.{◌≡◌, refl, sym, ap, ◌∙◌}
 use native.Mathlib.Omega.{arith}
+use Rattle.std.specs.Prelude.{Option as Maybe, ok_or}
+use Rattle.std.proofs.lemmas.Result.{err_from_is_err_and}
+use Rattle.rules.specs.declared.Refusal.TheVariants.{NoPlace}
+use Rattle.rules.specs.Given.{number_given}
+use Rattle.model_places.specs.declared.Picked.{Picked}
 use Rattle.store_check.proofs.StoreFacts.{whole}
-use borrow.Author.Tests.{not-true, not-false}
-use Rattle.model_places.proofs.PickLaws.{as_element, as_group, as_none, refused_there, located_there}
-use Rattle.quantifier_refusals.proofs.QuantifierLaws.{early_code, early_index, requantify_early, requantify_none, element_group, element_there, group_element, group_there}
+use Rattle.model_places.proofs.PickLaws.{as_none}
+use Rattle.quantifier_refusals.proofs.QuantifierLaws.{some_refusal, same_test, other_test, is_group, requantify_early, requantify_none, requantify_other, requantify_there, picked_placed}
 use borrow.Author.Rules.{rules}
 use Rattle.quantifier_refusals.proofs.requantify_refusal.Goals as goal
+use Rattle.quantifier_refusals.proofs.requantify_refusal.Goals.{in-Element, in-Group}
 
-pub returns-then-early-ne0 : goal.returns-then-early-ne0
-returns-then-early-ne0 c =
+pub returns-in_err-early_refusal : goal.returns-in_err-early_refusal
+returns-in_err-early_refusal c =
     let a = c.args in
-    refused_there
-    (requantify_early a.store.now (whole _ c.requires) a.owner a.place.now a.quantifier a.text.now
-    c.early_refusal-early.ensures a.group c.if-early-ne0.true)
-    c.refused.ensures (omega arith)
+    let p = err_from_is_err_and c.from_residual.result c.from_residual.ensures.1 in
+    rw (p.1, p.2) (
+      (requantify_early a.store.now (whole _ c.requires) a.owner a.place.now a.quantifier a.text.now
+          c.in_err-early_refusal.ensures a.group (some_refusal _)).is,
+      tt,
+    )
 
-pub overflow_cast-quantifier : goal.overflow_cast-quantifier
-overflow_cast-quantifier c =
+pub returns-in_err-x : goal.returns-in_err-x
+returns-in_err-x c =
     let a = c.args in
-    omega (arith, early_code a.owner a.quantifier a.text.now a.store.now c.early_refusal-early.ensures c.if-early-ne0.false)
+    let none = c.in_err-x.ensures in
+    let p = err_from_is_err_and c.from_residual-in_err-x.result c.from_residual-in_err-x.ensures.1 in
+    rw (p.1, p.2) (
+      ap number_given (none.value ∙ ap (λ (o : Maybe Picked). ok_or o NoPlace) none.ok_part)
+          ∙ (requantify_none a.store.now (whole _ c.requires) a.owner a.place.now a.quantifier a.text.now
+          c.in_ok-early_refusal.ensures refl a.group (as_none c.pick.ensures none.ok_part)).is,
+      tt,
+    )
 
-pub pick-x-requires : goal.pick-x-requires
-pick-x-requires c =
+pub returns-then-is_group-group : goal.returns-then-is_group-group
+returns-then-is_group-group c =
     let a = c.args in
-    (c.requires, early_index a.owner a.quantifier a.text.now a.store.now c.early_refusal-early.ensures c.if-early-ne0.false)
+    let sort : is_group c.in_ok-x.x.member.what ≡ c.match-x.is_group = elim c.match-x.branch [
+      | in-Element w ↦ ap is_group w.in-Element.is ∙ sym w.is_group-is
+      | in-Group w ↦ ap is_group w.in-Group.is ∙ sym w.is_group-is
+    ] in (
+      (requantify_other a.store.now (whole _ c.requires) a.owner a.place.now a.quantifier a.text.now
+          c.in_ok-early_refusal.ensures refl a.group c.pick.ensures c.in_ok-x.ensures.ok_part (λ z. other_test _ _ c.if-is_group-group.true (sym sort ∙ z))).is,
+      tt,
+    )
 
-pub returns-then-group : goal.returns-then-group
-returns-then-group c =
+pub returns-in_err-quantifier_at : goal.returns-in_err-quantifier_at
+returns-in_err-quantifier_at c =
     let a = c.args in
-    let element = as_element c.pick-x.ensures c.in-Element.is in
-    refused_there
-    (group_element a.store.now (whole _ c.requires) a.owner a.place.now a.quantifier a.text.now
-    c.early_refusal-early.ensures c.if-early-ne0.false a.group c.if-group.true element)
-    c.refused-then-group.ensures (omega arith)
+    let sort : is_group c.in_ok-x.x.member.what ≡ c.match-x.is_group = elim c.match-x.branch [
+      | in-Element w ↦ ap is_group w.in-Element.is ∙ sym w.is_group-is
+      | in-Group w ↦ ap is_group w.in-Group.is ∙ sym w.is_group-is
+    ] in
+    let p = err_from_is_err_and c.from_residual-in_err-quantifier_at.result c.from_residual-in_err-quantifier_at.ensures.1 in
+    rw (p.1, p.2) (
+      (requantify_there a.store.now (whole _ c.requires) a.owner a.place.now a.quantifier a.text.now
+          c.in_ok-early_refusal.ensures refl a.group c.pick.ensures c.in_ok-x.ensures.ok_part (sort ∙ same_test _ _ c.if-is_group-group.false)
+          c.read_quantifier-new.ensures c.in_err-quantifier_at.ensures).is,
+      tt,
+    )
 
-pub returns-then-not-group : goal.returns-then-not-group
-returns-then-not-group c =
+pub returns : goal.returns
+returns c =
     let a = c.args in
-    let group = as_group c.pick-x.ensures c.in-Group.is in
-    refused_there
-    (element_group a.store.now (whole _ c.requires) a.owner a.place.now a.quantifier a.text.now
-    c.early_refusal-early.ensures c.if-early-ne0.false a.group c.if-not-group.true group)
-    c.refused-then-not-group.ensures (omega arith)
-
-pub returns-else-group : goal.returns-else-group
-returns-else-group c =
-    let a = c.args in
-    let element = as_element c.pick-x.ensures c.in-Element.is in
-    located_there
-    (element_there a.store.now (whole _ c.requires) a.owner a.place.now a.quantifier a.text.now
-    c.early_refusal-early.ensures c.if-early-ne0.false a.group c.if-group.false element
-    c.from-new.ensures c.quantifier_at-number.ensures)
-    c.at_place.ensures element.placed
-
-pub returns-else-not-group : goal.returns-else-not-group
-returns-else-not-group c =
-    let a = c.args in
-    let group = as_group c.pick-x.ensures c.in-Group.is in
-    located_there
-    (group_there a.store.now (whole _ c.requires) a.owner a.place.now a.quantifier a.text.now
-    c.early_refusal-early.ensures c.if-early-ne0.false a.group c.if-not-group.false group
-    c.from-new.ensures c.quantifier_at-number-in-Group.ensures)
-    c.at_place-in-Group.ensures group.placed
-
-pub returns-in-Absent : goal.returns-in-Absent
-returns-in-Absent c =
-    let a = c.args in
-    let nothing = as_none c.pick-x.ensures c.in-Absent.is in
-    refused_there
-    (requantify_none a.store.now (whole _ c.requires) a.owner a.place.now a.quantifier a.text.now
-    c.early_refusal-early.ensures c.if-early-ne0.false a.group nothing)
-    c.refused-in-Absent.ensures (omega arith)
+    let sort : is_group c.in_ok-x.x.member.what ≡ c.match-x.is_group = elim c.match-x.branch [
+      | in-Element w ↦ ap is_group w.in-Element.is ∙ sym w.is_group-is
+      | in-Group w ↦ ap is_group w.in-Group.is ∙ sym w.is_group-is
+    ] in (
+      (requantify_there a.store.now (whole _ c.requires) a.owner a.place.now a.quantifier a.text.now
+          c.in_ok-early_refusal.ensures refl a.group c.pick.ensures c.in_ok-x.ensures.ok_part (sort ∙ same_test _ _ c.if-is_group-group.false)
+          c.read_quantifier-new.ensures c.in_ok-quantifier_at.ensures).is,
+      picked_placed c.pick.ensures c.in_ok-x.ensures.ok_part,
+    )

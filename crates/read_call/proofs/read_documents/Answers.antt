@@ -1,7 +1,6 @@
 -- `read_call::read_documents` meets its contract: documents that do not stand are refused with 19 (`answer_bad` of
 -- CallLaws), a store that has no room with 18 (`answer_short`), any other is written whole (`answer_all`).
 use native.Mathlib.Omega.{arith}
-use Rattle.store_writer.proofs.LimitLaws.{answers_as}
 use Rattle.read_call.proofs.CallLaws.{rows_standing, answer_bad, answer_short, answer_all}
 use Rattle.read_call.proofs.read_documents.Goals as goal
 
@@ -11,8 +10,7 @@ judge_documents-requires c =
 
 pub returns-in_default : goal.returns-in_default
 returns-in_default c =
-    answers_as c.refused.ensures.0 c.refused.ensures.1
-    (answer_bad c.args.form.now c.args.text.now c.args.out.now c.in_default.ensures)
+    answer_bad c.args.form.now c.args.text.now c.args.out.now c.in_default.ensures
 
 pub row_size-requires : goal.row_size-requires
 row_size-requires c = c.width_in-w.ensures.small
@@ -27,9 +25,8 @@ overflow_add-length c = omega (arith, c.times.ensures.small, c.row_start.ensures
 
 pub returns-then-length-out : goal.returns-then-length-out
 returns-then-length-out c =
-    answers_as c.refused-then-length-out.ensures.0 c.refused-then-length-out.ensures.1
-    (answer_short c.args.form.now c.args.text.now c.args.out.now c.in-Some.ensures
-    c.row_start.ensures c.width_in-w.ensures c.row_size.ensures c.times.ensures (omega (arith, c.if-length-out.true)))
+    answer_short c.args.form.now c.args.text.now c.args.out.now c.in-Some.ensures
+    c.row_start.ensures c.width_in-w.ensures c.row_size.ensures c.times.ensures (omega (arith, c.if-length-out.true))
 
 pub put_store-requires : goal.put_store-requires
 put_store-requires c =

@@ -3,6 +3,7 @@
 -- (`promised_on`). What is lent of the local array is the form (`array_room`, `array_lent`), and has no rows
 -- (`array_bare`).
 use native.Mathlib.Omega.{arith}
+use mathlib.Core.Path.{refl}
 use Prim.Native.Nat.{ℕ}
 use lib.ListN.{length-replicate}
 use Rattle.rules.specs.Layout.{base_version}
@@ -15,7 +16,7 @@ read_form-requires c = omega (arith, c.width_of-w.ensures, width_most base_versi
 
 pub returns-in_default : goal.returns-in_default
 returns-in_default c =
-    promised_bad c.args.text.now c.args.out.now c.refused.ensures.0 c.refused.ensures.1
+    promised_bad c.args.text.now c.args.out.now refl refl
     (none_read c.args.text.now (read_at_lem c.args.text.now c.width_of-w.ensures c.in_default.ensures))
 
 pub slice_bounds-form-end : goal.slice_bounds-form-end
@@ -32,7 +33,7 @@ confirm-requires c =
 
 pub returns-in_default-confirm : goal.returns-in_default-confirm
 returns-in_default-confirm c =
-    promised_bad c.args.text.now c.args.out.now c.refused-in_default-confirm.ensures.0 c.refused-in_default-confirm.ensures.1
+    promised_bad c.args.text.now c.args.out.now refl refl
     (form_refused c.args.text.now (read_at_lem c.args.text.now c.width_of-w.ensures c.in-Some.ensures)
     (length-replicate {A = ℕ} 9768 0) c.in_default-confirm.ensures)
 

@@ -10,21 +10,29 @@ ghost use Rattle.rules.specs.Given.{AnswersBy};
 use rules::Refusal;
 
 /// 7: flattens a group into its list.
-pub fn flatten_group(store: &[u8], owner: u32, place: &[u32], out: &mut [u8]) -> Result<usize, Refusal>
+pub fn flatten_group(
+    store: &[u8],
+    owner: u32,
+    place: &[u32],
+    out: &mut [u8],
+) -> Result<usize, Refusal>
     ensures { AnswersBy (outcome (flatten_group owner place.now) store.now (length out.old)) out.old result out.new }
 {
     if !store_check::passes(store) {
         return Err(Refusal::BadStore);
     }
-    let group = group_refusals::flatten_group_refusal(store, owner, place);
-    let number = group.number;
-    if number != 0 {
-        return store_writer::refused(number);
-    }
+    let group = group_refusals::flatten_group_refusal(store, owner, place)?;
     let o = owner as usize;
     let edit = conversion::flatten_edit();
     let plan = plans::setting_plan(0);
-    let h = group.holder;
-    let p = group.particle;
-    model_edit::edit_model(store, o, edit, h, p, plan, &store[..0], out)
+    model_edit::edit_model(
+        store,
+        o,
+        edit,
+        group.holder,
+        group.particle,
+        plan,
+        &store[..0],
+        out,
+    )
 }

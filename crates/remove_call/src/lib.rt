@@ -11,20 +11,28 @@ use model_writer::Edit;
 use rules::Refusal;
 
 /// 4: removes an element, with the children of instances that it stands for.
-pub fn remove_element(store: &[u8], owner: u32, place: &[u32], out: &mut [u8]) -> Result<usize, Refusal>
+pub fn remove_element(
+    store: &[u8],
+    owner: u32,
+    place: &[u32],
+    out: &mut [u8],
+) -> Result<usize, Refusal>
     ensures { AnswersBy (outcome (remove_element owner place.now) store.now (length out.old)) out.old result out.new }
 {
     if !store_check::passes(store) {
         return Err(Refusal::BadStore);
     }
-    let element = remove_refusals::remove_element_refusal(store, owner, place);
-    let number = element.number;
-    if number != 0 {
-        return store_writer::refused(number);
-    }
+    let element = remove_refusals::remove_element_refusal(store, owner, place)?;
     let o = owner as usize;
     let plan = member_plans::removing_plan(model_places::own_part(store, o), o, element.particle);
-    let h = element.holder;
-    let p = element.particle;
-    model_edit::edit_model(store, o, Edit::Remove, h, p, plan, &store[..0], out)
+    model_edit::edit_model(
+        store,
+        o,
+        Edit::Remove,
+        element.holder,
+        element.particle,
+        plan,
+        &store[..0],
+        out,
+    )
 }

@@ -24,15 +24,18 @@ pub fn convert_to_group(
     if !store_check::passes(store) {
         return Err(Refusal::BadStore);
     }
-    let members = group_refusals::convert_to_group_refusal(store, owner, place, count, sort);
-    let number = members.number;
-    if number != 0 {
-        return store_writer::refused(number);
-    }
+    let members = group_refusals::convert_to_group_refusal(store, owner, place, count, sort)?;
     let o = owner as usize;
     let edit = conversion::convert_edit(count, sort);
     let plan = plans::setting_plan(0);
-    let h = members.holder;
-    let p = members.particle;
-    model_edit::edit_model(store, o, edit, h, p, plan, &store[..0], out)
+    model_edit::edit_model(
+        store,
+        o,
+        edit,
+        members.holder,
+        members.particle,
+        plan,
+        &store[..0],
+        out,
+    )
 }

@@ -21,15 +21,18 @@ pub fn flatten_group(
     if !store_check::passes(store) {
         return Err(Refusal::BadStore);
     }
-    let group = group_refusals::flatten_group_refusal(store, owner, place);
-    let number = group.number;
-    if number != 0 {
-        return store_writer::refused(number);
-    }
+    let group = group_refusals::flatten_group_refusal(store, owner, place)?;
     let o = owner as usize;
     let edit = conversion::flatten_edit();
     let plan = plans::setting_plan(0);
-    let h = group.holder;
-    let p = group.particle;
-    model_edit::edit_model(store, o, edit, h, p, plan, &store[..0], out)
+    model_edit::edit_model(
+        store,
+        o,
+        edit,
+        group.holder,
+        group.particle,
+        plan,
+        &store[..0],
+        out,
+    )
 }

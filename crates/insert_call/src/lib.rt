@@ -29,17 +29,11 @@ pub fn insert_element(
     }
     let gap = insert_refusals::insert_element_refusal(
         store, owner, place, definition, quantifier, text,
-    );
-    let number = gap.number;
-    if number != 0 {
-        return store_writer::refused(number);
-    }
+    )?;
     let o = owner as usize;
     let i = definition as usize;
-    let h = gap.holder;
-    let p = gap.particle;
     let part = model_places::own_part(store, o);
-    let plan = member_plans::inserting_plan(part, o, p, h.spine, i, quantifier);
+    let plan = member_plans::inserting_plan(part, o, gap.particle, gap.holder.spine, i, quantifier);
     let edit = Edit::Insert(Quantifier::from(quantifier as u8), i);
-    model_edit::edit_model(store, o, edit, h, p, plan, text, out)
+    model_edit::edit_model(store, o, edit, gap.holder, gap.particle, plan, text, out)
 }

@@ -29,16 +29,20 @@ pub fn requantify(
     }
     let found = quantifier_refusals::requantify_refusal(
         store, owner, place, quantifier, text, group,
-    );
-    let number = found.number;
-    if number != 0 {
-        return store_writer::refused(number);
-    }
+    )?;
     let o = owner as usize;
     let new = Quantifier::from(quantifier as u8);
     let part = model_places::own_part(store, o);
-    let h = found.holder;
-    let p = found.particle;
-    let plan = quantifier_plans::new_plan(store, part, o, h, p, new, group);
-    model_edit::edit_model(store, o, Edit::Quantify(new), h, p, plan, text, out)
+    let plan = quantifier_plans::new_plan(store, part, o, found.holder, found.particle, new, group);
+    let edit = Edit::Quantify(new);
+    model_edit::edit_model(
+        store,
+        o,
+        edit,
+        found.holder,
+        found.particle,
+        plan,
+        text,
+        out,
+    )
 }

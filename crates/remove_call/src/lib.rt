@@ -22,14 +22,17 @@ pub fn remove_element(
     if !store_check::passes(store) {
         return Err(Refusal::BadStore);
     }
-    let element = remove_refusals::remove_element_refusal(store, owner, place);
-    let number = element.number;
-    if number != 0 {
-        return store_writer::refused(number);
-    }
+    let element = remove_refusals::remove_element_refusal(store, owner, place)?;
     let o = owner as usize;
     let plan = member_plans::removing_plan(model_places::own_part(store, o), o, element.particle);
-    let h = element.holder;
-    let p = element.particle;
-    model_edit::edit_model(store, o, Edit::Remove, h, p, plan, &store[..0], out)
+    model_edit::edit_model(
+        store,
+        o,
+        Edit::Remove,
+        element.holder,
+        element.particle,
+        plan,
+        &store[..0],
+        out,
+    )
 }

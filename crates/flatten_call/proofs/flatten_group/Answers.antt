@@ -2,8 +2,9 @@
 -- CallLaws), a condition that holds gives its number (`turned_away`); else the edit fits its place (`flatten_fits`
 -- of Laws; `asks` of Fits) and keeps all rows (`kept_answers` of Keeping, by `flatten_form`, `flatten_plan`).
 use mathlib.Core.Bool.{not}
-use mathlib.Core.Path.{sym, ◌∙◌, ap}
+use mathlib.Core.Path.{refl, sym, ap}
 use lib.ListN.{length}
+use Rattle.std.proofs.lemmas.Result.{err_from_is_err_and}
 use Rattle.rules.specs.Lines.{lines}
 use Rattle.rules.specs.Change.{flatten_group}
 use Rattle.store_laws.specs.Stores.{store_in}
@@ -20,24 +21,26 @@ pub returns-then-not-passes : goal.returns-then-not-passes
 returns-then-not-passes c =
     let a = c.args in
     bad (flatten_group a.owner a.place.now) a.store.now (length a.out.now) a.out.now
-    (ap not c.if-not-passes.true) c.passes.ensures c.refused.ensures
+    (ap not c.if-not-passes.true) c.passes.ensures
 
-pub flatten_group_refusal-group-requires : goal.flatten_group_refusal-group-requires
-flatten_group_refusal-group-requires c =
+pub flatten_group_refusal-requires : goal.flatten_group_refusal-requires
+flatten_group_refusal-requires c =
     passed c.args.store.now (ap not c.if-not-passes.false) c.passes.ensures
 
-pub returns-then-number-ne0 : goal.returns-then-number-ne0
-returns-then-number-ne0 c =
+pub returns-in_err-group : goal.returns-in_err-group
+returns-in_err-group c =
     let a = c.args in
-    turned_away (flatten_group a.owner a.place.now) a.store.now (length a.out.now) a.out.now
-    (ap not c.if-not-passes.false) c.passes.ensures c.flatten_group_refusal-group.ensures.0 c.if-number-ne0.true c.refused-then-number-ne0.ensures
+    let p = err_from_is_err_and c.from_residual.result c.from_residual.ensures.1 in
+    rw (p.1, p.2)
+    (turned_away (flatten_group a.owner a.place.now) a.store.now (length a.out.now) a.out.now
+    (ap not c.if-not-passes.false) c.passes.ensures c.in_err-group.field-0.0 c.in_err-group.ensures.0)
 
 pub edit_model-requires : goal.edit_model-requires
 edit_model-requires c =
     let a = c.args in
-    let none = sym c.flatten_group_refusal-group.ensures.0 ∙ c.if-number-ne0.false in
+    let none = sym c.in_ok-group.ensures.0 in
     let fits = flatten_fits a.store.now (passed a.store.now (ap not c.if-not-passes.false) c.passes.ensures) a.owner a.place.now none in
-    let place = c.flatten_group_refusal-group.ensures.1.found c.if-number-ne0.false in
+    let place = c.in_ok-group.ensures.1 in
     let edit = c.flatten_edit-edit.result in
     let same = c.flatten_edit-edit.ensures in
     (asks fits edit same place, none_value (width_of a.store.now), keeping_sized c.setting_plan-plan.ensures)
@@ -45,12 +48,12 @@ edit_model-requires c =
 pub returns : goal.returns
 returns c =
     let a = c.args in
-    let none = sym c.flatten_group_refusal-group.ensures.0 ∙ c.if-number-ne0.false in
+    let none = sym c.in_ok-group.ensures.0 in
     let fits = flatten_fits a.store.now (passed a.store.now (ap not c.if-not-passes.false) c.passes.ensures) a.owner a.place.now none in
-    let place = c.flatten_group_refusal-group.ensures.1.found c.if-number-ne0.false in
+    let place = c.in_ok-group.ensures.1 in
     let edit = c.flatten_edit-edit.result in
     let same = c.flatten_edit-edit.ensures in
     kept_answers fits edit same place (flatten_group a.owner a.place.now) (length a.out.now) _ c.setting_plan-plan.ensures
-    c.flatten_group_refusal-group.ensures.0 c.if-number-ne0.false (flatten_form a.owner a.place.now (store_in a.store.now).form)
+    c.in_ok-group.ensures.0 refl (flatten_form a.owner a.place.now (store_in a.store.now).form)
     (flatten_plan a.owner a.place.now (store_in a.store.now).version (store_in a.store.now).form (lines 0 (store_in a.store.now).docs))
     c.edit_model.ensures

@@ -7,7 +7,6 @@ use lib.ListN.{length, length-replicate}
 use borrow.Author.Tests.{not-true, not-false}
 use Rattle.layout.specs.Bodies.{most_form}
 use Rattle.lookup.specs.Bodies.{bodies_of}
-use Rattle.store_writer.proofs.LimitLaws.{answers_as}
 use Rattle.store_laws.proofs.FormLaws.{forms_of}
 use Rattle.store_writer.proofs.FormAnswers.{form_answers, form_ceiling}
 use Rattle.model_form.proofs.FormWriting.{owner_low, own_low, as_many, form_short, form_of, stored}
@@ -24,9 +23,8 @@ keeps_within-requires c =
 
 pub returns-then-not-keeps_within : goal.returns-then-not-keeps_within
 returns-then-not-keeps_within c =
-    answers_as c.refused.ensures.0 c.refused.ensures.1
-    (form_ceiling _ (sym c.keeps_within.ensures ∙ c.if-not-keeps_within.true) c.args.plan c.args.text.now
-    (bodies_of c.args.store.now) (length c.args.out.now))
+    form_ceiling _ (sym c.keeps_within.ensures ∙ c.if-not-keeps_within.true) c.args.plan c.args.text.now
+    (bodies_of c.args.store.now) (length c.args.out.now)
 
 pub put_edited-end-requires : goal.put_edited-end-requires
 put_edited-end-requires c =

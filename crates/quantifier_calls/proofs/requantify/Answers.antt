@@ -3,8 +3,9 @@
 -- require is by `given` of Fitting, `owner_fits` of Fits, `edits_there` of Answering, `given_stands` and `given_sized`.
 use mathlib.Core.Bool.{not}
 use native.Mathlib.Omega.{arith}
-use mathlib.Core.Path.{sym, ◌∙◌, ap}
+use mathlib.Core.Path.{refl, sym, ap}
 use lib.ListN.{length}
+use Rattle.std.proofs.lemmas.Result.{err_from_is_err_and}
 use Rattle.quantifier_refusals.specs.Requantifying.{requantify}
 use Rattle.store_writer.proofs.CallLaws.{passed, bad, turned_away}
 use Rattle.model_edit.proofs.Fits.{owner_fits}
@@ -18,46 +19,48 @@ pub returns-then-not-passes : goal.returns-then-not-passes
 returns-then-not-passes c =
     let a = c.args in
     bad (requantify a.group a.owner a.place.now a.quantifier a.text.now) a.store.now (length a.out.now) a.out.now
-    (ap not c.if-not-passes.true) c.passes.ensures c.refused.ensures
+    (ap not c.if-not-passes.true) c.passes.ensures
 
-pub requantify_refusal-found-requires : goal.requantify_refusal-found-requires
-requantify_refusal-found-requires c =
+pub requantify_refusal-requires : goal.requantify_refusal-requires
+requantify_refusal-requires c =
     passed c.args.store.now (ap not c.if-not-passes.false) c.passes.ensures
 
-pub returns-then-number-ne0 : goal.returns-then-number-ne0
-returns-then-number-ne0 c =
+pub returns-in_err-found : goal.returns-in_err-found
+returns-in_err-found c =
     let a = c.args in
-    turned_away (requantify a.group a.owner a.place.now a.quantifier a.text.now) a.store.now (length a.out.now) a.out.now
-    (ap not c.if-not-passes.false) c.passes.ensures c.requantify_refusal-found.ensures.0 c.if-number-ne0.true c.refused-then-number-ne0.ensures
+    let p = err_from_is_err_and c.from_residual.result c.from_residual.ensures.1 in
+    rw (p.1, p.2)
+    (turned_away (requantify a.group a.owner a.place.now a.quantifier a.text.now) a.store.now (length a.out.now) a.out.now
+    (ap not c.if-not-passes.false) c.passes.ensures c.in_err-found.field-0.0 c.in_err-found.ensures.0)
 
 pub overflow_cast-quantifier : goal.overflow_cast-quantifier
 overflow_cast-quantifier c =
     let a = c.args in
-    let none = sym c.requantify_refusal-found.ensures.0 ∙ c.if-number-ne0.false in
+    let none = sym c.in_ok-found.ensures.0 in
     let given = conditions-given a.store.now (passed a.store.now (ap not c.if-not-passes.false) c.passes.ensures) a.owner a.place.now a.quantifier a.text.now a.group none in
     omega (arith, given.code)
 
 pub own_part-part-requires : goal.own_part-part-requires
 own_part-part-requires c =
     let a = c.args in
-    let none = sym c.requantify_refusal-found.ensures.0 ∙ c.if-number-ne0.false in
+    let none = sym c.in_ok-found.ensures.0 in
     let given = conditions-given a.store.now (passed a.store.now (ap not c.if-not-passes.false) c.passes.ensures) a.owner a.place.now a.quantifier a.text.now a.group none in
     owner_fits given.fits
 
 pub new_plan-plan-requires : goal.new_plan-plan-requires
 new_plan-plan-requires c =
     let a = c.args in
-    let none = sym c.requantify_refusal-found.ensures.0 ∙ c.if-number-ne0.false in
+    let none = sym c.in_ok-found.ensures.0 in
     let given = conditions-given a.store.now (passed a.store.now (ap not c.if-not-passes.false) c.passes.ensures) a.owner a.place.now a.quantifier a.text.now a.group none in
-    let place = c.requantify_refusal-found.ensures.1.found c.if-number-ne0.false in
+    let place = c.in_ok-found.ensures.1 in
     (given_stands place c.own_part-part.ensures given, owner_fits given.fits)
 
 pub edit_model-requires : goal.edit_model-requires
 edit_model-requires c =
     let a = c.args in
-    let none = sym c.requantify_refusal-found.ensures.0 ∙ c.if-number-ne0.false in
+    let none = sym c.in_ok-found.ensures.0 in
     let given = conditions-given a.store.now (passed a.store.now (ap not c.if-not-passes.false) c.passes.ensures) a.owner a.place.now a.quantifier a.text.now a.group none in
-    let place = c.requantify_refusal-found.ensures.1.found c.if-number-ne0.false in
+    let place = c.in_ok-found.ensures.1 in
     let new = c.from-new.ensures in (
       edits_there given.fits place new,
       given.value,
@@ -67,8 +70,8 @@ edit_model-requires c =
 pub returns : goal.returns
 returns c =
     let a = c.args in
-    let none = sym c.requantify_refusal-found.ensures.0 ∙ c.if-number-ne0.false in
+    let none = sym c.in_ok-found.ensures.0 in
     let given = conditions-given a.store.now (passed a.store.now (ap not c.if-not-passes.false) c.passes.ensures) a.owner a.place.now a.quantifier a.text.now a.group none in
-    let place = c.requantify_refusal-found.ensures.1.found c.if-number-ne0.false in
+    let place = c.in_ok-found.ensures.1 in
     given_answers place c.own_part-part.ensures c.from-new.ensures a.group given c.new_plan-plan.ensures
-    (length a.out.now) _ c.requantify_refusal-found.ensures.0 c.if-number-ne0.false c.edit_model.ensures
+    (length a.out.now) _ c.in_ok-found.ensures.0 refl c.edit_model.ensures

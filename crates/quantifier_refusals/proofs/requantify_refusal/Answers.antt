@@ -60,7 +60,7 @@ returns-in_err-quantifier_at c =
     rw (p.1, p.2) (
       (requantify_there a.store.now (whole _ c.requires) a.owner a.place.now a.quantifier a.text.now
           c.in_ok-early_refusal.ensures refl a.group c.pick.ensures c.in_ok-x.ensures.ok_part (sort ∙ same_test _ _ c.if-is_group-group.false)
-          c.read_quantifier-new.ensures c.in_err-quantifier_at.ensures).is,
+          c.from-new.ensures c.in_err-quantifier_at.ensures).is,
       tt,
     )
 
@@ -73,6 +73,6 @@ returns c =
     ] in (
       (requantify_there a.store.now (whole _ c.requires) a.owner a.place.now a.quantifier a.text.now
           c.in_ok-early_refusal.ensures refl a.group c.pick.ensures c.in_ok-x.ensures.ok_part (sort ∙ same_test _ _ c.if-is_group-group.false)
-          c.read_quantifier-new.ensures c.in_ok-quantifier_at.ensures).is,
+          c.from-new.ensures c.in_ok-quantifier_at.ensures).is,
       picked_placed c.pick.ensures c.in_ok-x.ensures.ok_part,
     )

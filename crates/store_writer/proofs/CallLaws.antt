@@ -37,7 +37,7 @@ module _ (c : Call) (bs : Bytes) (room : ℕ) {out : Bytes} where
       → {number len : ℕ} {left : Bytes} → Answers (limited room f) out number len left → Answers (outcome c bs room) out number len left
   answers_written h n e z f g a = answers_equal (outcome_limited c bs room (holds bs h) (sym e ∙ z) f g) a
 
--- ---- in the words of the code: b is what the check gave, r the first condition
+-- ---- in the words of the code: b is what the check gave, m the number of the first condition
 pub passed : {b : Bool} (bs : Bytes) → not b ≡ false → b ≡ passes bs → passes bs ≡ true
 passed {b = b} bs h e = sym e ∙ not-false b h
 
@@ -46,9 +46,21 @@ failed {b = true} bs h e = absurd (false≢true h)
 failed {b = false} bs h e = sym e
 
 module _ (c : Call) (bs : Bytes) (room : ℕ) (out : Bytes) where
-  pub bad : {b : Bool} → not b ≡ true → b ≡ passes bs → AnswersBy (outcome c bs room) out (Err BadStore) out
-  bad h e = answers_bad c bs room (failed bs h e)
+  pub bad : {b : Bool} {n l : ℕ} → not b ≡ true → b ≡ passes bs → (n ≡ 1) × (l ≡ 0) → Answers (outcome c bs room) out n l out
+  bad h e (n_is, l-is) =
+      let a : Answers (outcome c bs room) out 1 0 out = answers_bad c bs room (failed bs h e) in
+      record { number_is = n_is ∙ a.number_is; length_is = l-is ∙ a.length_is; buffer_is = a.buffer_is }
 
-  pub turned_away : {b : Bool} → not b ≡ false → b ≡ passes bs → (r : Refusal) → refusal_number r ≡ first (conditions c (store_in bs))
+  pub turned_away : {b : Bool} {m n l : ℕ} → not b ≡ false → b ≡ passes bs → m ≡ first (conditions c (store_in bs)) → (m ≡ 0 → ⊥) → (n ≡ m) × (l ≡ 0)
+      → Answers (outcome c bs room) out n l out
+  turned_away {m = m} h e f z (n_is, l-is) =
+      let a : Answers (outcome c bs room) out m 0 out = answers_condition c bs room (passed bs h e) m f z in
+      record { number_is = n_is ∙ a.number_is; length_is = l-is ∙ a.length_is; buffer_is = a.buffer_is }
+
+  -- .. as results: r is the first condition
+  pub bad_by : {b : Bool} → not b ≡ true → b ≡ passes bs → AnswersBy (outcome c bs room) out (Err BadStore) out
+  bad_by h e = bad h e (refl, refl)
+
+  pub turned_away_by : {b : Bool} → not b ≡ false → b ≡ passes bs → (r : Refusal) → refusal_number r ≡ first (conditions c (store_in bs))
       → AnswersBy (outcome c bs room) out (Err r) out
-  turned_away h e r f = answers_condition c bs room (passed bs h e) (refusal_number r) f (refusal_some r)
+  turned_away_by h e r f = turned_away h e f (refusal_some r) (refl, refl)

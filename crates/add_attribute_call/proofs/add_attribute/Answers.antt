@@ -1,12 +1,12 @@
--- `add_attribute_call::add_attribute` meets its contract: a store that does not pass is refused with 1 (`bad` of
--- CallLaws), a condition that holds gives its number (`turned_away`); else `write_added` may be called (`addable` of
+-- `add_attribute_call::add_attribute` meets its contract: a store that does not pass is refused with 1 (`bad_by` of
+-- CallLaws), a condition that holds gives its number (`turned_away_by`); else `write_added` may be called (`addable` of
 -- Laws), and its answer is the outcome (`made` of Calls), as `added` is what the change leaves (`add_leaves`).
 use mathlib.Core.Path.{refl, ap}
 use mathlib.Core.Bool.{not}
 use lib.ListN.{length}
 use Rattle.rules.specs.Change.{add_attribute}
 use Rattle.lookup.specs.Bodies.{bodies_of}
-use Rattle.store_writer.proofs.CallLaws.{passed, bad, turned_away}
+use Rattle.store_writer.proofs.CallLaws.{passed, bad_by, turned_away_by}
 use Rattle.add_attribute_call.specs.Added.{added}
 use Rattle.call_laws.proofs.Calls.{made}
 use Rattle.add_attribute_call.proofs.Laws.{addable, add_leaves}
@@ -15,7 +15,7 @@ use Rattle.add_attribute_call.proofs.add_attribute.Goals as goal
 
 pub returns-then-not-passes : goal.returns-then-not-passes
 returns-then-not-passes c =
-    bad (add_attribute c.args.owner c.args.name.now c.args.sort c.args.value.now) c.args.store.now
+    bad_by (add_attribute c.args.owner c.args.name.now c.args.sort c.args.value.now) c.args.store.now
     (length c.args.out.now) c.args.out.now (ap not c.if-not-passes.true) c.passes.ensures
 
 pub add_attribute_refusal-requires : goal.add_attribute_refusal-requires
@@ -26,7 +26,7 @@ pub returns-in_err-add_attribute_refusal : goal.returns-in_err-add_attribute_ref
 returns-in_err-add_attribute_refusal c =
     let passed_on = err_from_is_err_and c.from_residual.result c.from_residual.ensures.1 in
     rw (passed_on.1, passed_on.2)
-    (turned_away (add_attribute c.args.owner c.args.name.now c.args.sort c.args.value.now) c.args.store.now
+    (turned_away_by (add_attribute c.args.owner c.args.name.now c.args.sort c.args.value.now) c.args.store.now
     (length c.args.out.now) c.args.out.now (ap not c.if-not-passes.false) c.passes.ensures
     c.in_err-add_attribute_refusal.field-0.0 c.in_err-add_attribute_refusal.ensures)
 

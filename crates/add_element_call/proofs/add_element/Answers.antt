@@ -1,5 +1,5 @@
--- `add_element_call::add_element` meets its contract: the returns are for a bad store (`bad` of CallLaws), a condition
--- (`turned_away`) and the answer of `edit` (`made_planned` of Calls, `add_element_planned` of CallsPlanned); what
+-- `add_element_call::add_element` meets its contract: the returns are for a bad store (`bad_by` of CallLaws), a condition
+-- (`turned_away_by`) and the answer of `edit` (`made_planned` of Calls, `add_element_planned` of CallsPlanned); what
 -- `adding_element` and `edit` require is `add_element_there` and `add_element_asks` of Laws.
 use mathlib.Core.Path.{refl, ap}
 use mathlib.Core.Bool.{not}
@@ -9,14 +9,14 @@ use Rattle.rules.specs.Change.{add_element}
 use Rattle.store_laws.specs.Stores.{store_in}
 use Rattle.plans.specs.CallPlans.{add_element_plan, child_serial}
 use Rattle.plans.proofs.CallsPlanned.{add_element_planned}
-use Rattle.store_writer.proofs.CallLaws.{passed, bad, turned_away}
+use Rattle.store_writer.proofs.CallLaws.{passed, bad_by, turned_away_by}
 use Rattle.call_laws.proofs.Calls.{made_planned}
 use Rattle.add_element_call.proofs.Laws.{add_element_asks, add_element_there}
 use Rattle.add_element_call.proofs.add_element.Goals as goal
 
 pub returns-then-not-passes : goal.returns-then-not-passes
 returns-then-not-passes c =
-    bad (add_element c.args.parent c.args.child c.args.definition c.args.text.now) c.args.store.now
+    bad_by (add_element c.args.parent c.args.child c.args.definition c.args.text.now) c.args.store.now
     (length c.args.out.now) c.args.out.now (ap not c.if-not-passes.true) c.passes.ensures
 
 pub add_element_refusal-requires : goal.add_element_refusal-requires
@@ -27,7 +27,7 @@ pub returns-in_err-add_element_refusal : goal.returns-in_err-add_element_refusal
 returns-in_err-add_element_refusal c =
     let passed_on = err_from_is_err_and c.from_residual.result c.from_residual.ensures.1 in
     rw (passed_on.1, passed_on.2)
-    (turned_away (add_element c.args.parent c.args.child c.args.definition c.args.text.now) c.args.store.now
+    (turned_away_by (add_element c.args.parent c.args.child c.args.definition c.args.text.now) c.args.store.now
     (length c.args.out.now) c.args.out.now (ap not c.if-not-passes.false) c.passes.ensures
     c.in_err-add_element_refusal.field-0.0 c.in_err-add_element_refusal.ensures)
 

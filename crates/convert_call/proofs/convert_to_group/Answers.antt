@@ -1,5 +1,5 @@
 -- `convert_call::convert_to_group` meets its contract: the call is refused on a bad store and by a condition
--- (`bad`, `turned_away` of CallLaws). Else the edit fits at the place (`convert_fits` of Laws), and
+-- (`bad_by`, `turned_away_by` of CallLaws). Else the edit fits at the place (`convert_fits` of Laws), and
 -- `edit_model` writes what the change leaves (`kept_answers` of Keeping).
 use mathlib.Core.Bool.{not}
 use mathlib.Core.Path.{refl, sym, ap}
@@ -8,7 +8,7 @@ use Rattle.std.proofs.lemmas.Result.{err_from_is_err_and}
 use Rattle.rules.specs.Lines.{lines}
 use Rattle.rules.specs.Change.{convert_to_group}
 use Rattle.store_laws.specs.Stores.{store_in}
-use Rattle.store_writer.proofs.CallLaws.{passed, bad, turned_away}
+use Rattle.store_writer.proofs.CallLaws.{passed, bad_by, turned_away_by}
 use Rattle.model_edit.proofs.Fits.{asks}
 use Rattle.model_edit.proofs.Keeping.{kept_answers, keeping_sized}
 use Rattle.convert_call.proofs.Laws.{convert_fits, convert_form, convert_plan}
@@ -20,7 +20,7 @@ use Rattle.convert_call.proofs.convert_to_group.Goals as goal
 pub returns-then-not-passes : goal.returns-then-not-passes
 returns-then-not-passes c =
     let a = c.args in
-    bad (convert_to_group a.owner a.place.now a.count a.sort) a.store.now (length a.out.now) a.out.now
+    bad_by (convert_to_group a.owner a.place.now a.count a.sort) a.store.now (length a.out.now) a.out.now
     (ap not c.if-not-passes.true) c.passes.ensures
 
 pub convert_to_group_refusal-requires : goal.convert_to_group_refusal-requires
@@ -32,7 +32,7 @@ returns-in_err-members c =
     let a = c.args in
     let p = err_from_is_err_and c.from_residual.result c.from_residual.ensures.1 in
     rw (p.1, p.2)
-    (turned_away (convert_to_group a.owner a.place.now a.count a.sort) a.store.now (length a.out.now) a.out.now
+    (turned_away_by (convert_to_group a.owner a.place.now a.count a.sort) a.store.now (length a.out.now) a.out.now
     (ap not c.if-not-passes.false) c.passes.ensures c.in_err-members.field-0.0 c.in_err-members.ensures.0)
 
 pub edit_model-requires : goal.edit_model-requires

@@ -1,10 +1,10 @@
--- `create_definition_call::create_definition` meets its contract: the returns are for a bad store (`bad` of CallLaws),
--- a condition (`turned_away`), a limit (`answers_limit` of Limits) and none of these (`answers_all`); the bodies after
+-- `create_definition_call::create_definition` meets its contract: the returns are for a bad store (`bad_by` of CallLaws),
+-- a condition (`turned_away_by`), a limit (`answers_limit` of Limits) and none of these (`answers_all`); the bodies after
 -- the change are `created` (`flat_after_create` of CreateCall), name and kind fit (`fresh` of CreateConditions).
 use mathlib.Core.Bool.{not}
 use Rattle.create_definition_call.proofs.CreateCall.{flat_after_create}
 use Rattle.definition_refusals.proofs.CreateConditions.{fresh}
-use Rattle.store_writer.proofs.CallLaws.{passed, bad, turned_away}
+use Rattle.store_writer.proofs.CallLaws.{passed, bad_by, turned_away_by}
 use Rattle.call_laws.proofs.Limits.{answers_limit, answers_all}
 use Rattle.definition_creation.specs.Bodies.{created}
 use Rattle.lookup.specs.Bodies.{bodies_of}
@@ -17,7 +17,7 @@ use Rattle.create_definition_call.proofs.create_definition.Goals as goal
 
 pub returns-then-not-passes : goal.returns-then-not-passes
 returns-then-not-passes c =
-    bad (create_definition c.args.name.now c.args.kind) c.args.store.now (length c.args.out.now) c.args.out.now
+    bad_by (create_definition c.args.name.now c.args.kind) c.args.store.now (length c.args.out.now) c.args.out.now
     (ap not c.if-not-passes.true) c.passes.ensures
 
 pub create_condition-requires : goal.create_condition-requires
@@ -28,7 +28,7 @@ pub returns-in_err-create_condition : goal.returns-in_err-create_condition
 returns-in_err-create_condition c =
     let passed_on = err_from_is_err_and c.from_residual.result c.from_residual.ensures.1 in
     rw (passed_on.1, passed_on.2)
-    (turned_away (create_definition c.args.name.now c.args.kind) c.args.store.now (length c.args.out.now) c.args.out.now
+    (turned_away_by (create_definition c.args.name.now c.args.kind) c.args.store.now (length c.args.out.now) c.args.out.now
     (ap not c.if-not-passes.false) c.passes.ensures c.in_err-create_condition.field-0.0 c.in_err-create_condition.ensures)
 
 pub create_limit-requires : goal.create_limit-requires

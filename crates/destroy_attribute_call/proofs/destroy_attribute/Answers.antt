@@ -1,5 +1,5 @@
--- `destroy_attribute_call::destroy_attribute` meets its contract: a store that does not pass is refused with 1 (`bad`
--- of CallLaws), a condition that holds gives its number (`turned_away`); else `write_dropped` may be called
+-- `destroy_attribute_call::destroy_attribute` meets its contract: a store that does not pass is refused with 1 (`bad_by`
+-- of CallLaws), a condition that holds gives its number (`turned_away_by`); else `write_dropped` may be called
 -- (`droppable` of Laws), and it answers the outcome (`made` of Calls), as `dropped` is what is left (`destroy_leaves`).
 use mathlib.Core.Path.{refl, ap}
 use mathlib.Core.Bool.{not}
@@ -7,7 +7,7 @@ use mathlib.Core.List.{[]}
 use lib.ListN.{length}
 use Rattle.rules.specs.Change.{destroy_attribute}
 use Rattle.lookup.specs.Bodies.{bodies_of}
-use Rattle.store_writer.proofs.CallLaws.{passed, bad, turned_away}
+use Rattle.store_writer.proofs.CallLaws.{passed, bad_by, turned_away_by}
 use Rattle.destroy_attribute_call.specs.Dropped.{dropped}
 use Rattle.call_laws.proofs.Calls.{made}
 use Rattle.destroy_attribute_call.proofs.Laws.{droppable, destroy_leaves}
@@ -16,7 +16,7 @@ use Rattle.destroy_attribute_call.proofs.destroy_attribute.Goals as goal
 
 pub returns-then-not-passes : goal.returns-then-not-passes
 returns-then-not-passes c =
-    bad (destroy_attribute c.args.attribute) c.args.store.now (length c.args.out.now) c.args.out.now (ap not c.if-not-passes.true)
+    bad_by (destroy_attribute c.args.attribute) c.args.store.now (length c.args.out.now) c.args.out.now (ap not c.if-not-passes.true)
     c.passes.ensures
 
 pub destroy_attribute_refusal-requires : goal.destroy_attribute_refusal-requires
@@ -27,7 +27,7 @@ pub returns-in_err-destroy_attribute_refusal : goal.returns-in_err-destroy_attri
 returns-in_err-destroy_attribute_refusal c =
     let passed_on = err_from_is_err_and c.from_residual.result c.from_residual.ensures.1 in
     rw (passed_on.1, passed_on.2)
-    (turned_away (destroy_attribute c.args.attribute) c.args.store.now (length c.args.out.now) c.args.out.now
+    (turned_away_by (destroy_attribute c.args.attribute) c.args.store.now (length c.args.out.now) c.args.out.now
     (ap not c.if-not-passes.false) c.passes.ensures c.in_err-destroy_attribute_refusal.field-0.0 c.in_err-destroy_attribute_refusal.ensures)
 
 pub write_dropped-requires : goal.write_dropped-requires

@@ -1,10 +1,10 @@
 -- `destroy_definition_call::destroy_definition` meets its contract: the call is refused on a bad store, by a condition
--- (`bad`, `turned_away` of CallLaws) and by a limit (`answers_limit` of Limits). Else the store is written
+-- (`bad_by`, `turned_away_by` of CallLaws) and by a limit (`answers_limit` of Limits). Else the store is written
 -- (`answers_all`), and its bodies are those that the change leaves (`flat_after_destroy` of DestroyCall).
 use mathlib.Core.Bool.{not}
 use Rattle.destroy_definition_call.proofs.DestroyCall.{flat_after_destroy}
 use Rattle.definition_refusals.proofs.DestroyConditions.{stands}
-use Rattle.store_writer.proofs.CallLaws.{passed, bad, turned_away}
+use Rattle.store_writer.proofs.CallLaws.{passed, bad_by, turned_away_by}
 use Rattle.call_laws.proofs.Limits.{answers_limit, answers_all}
 use Rattle.definition_removal.specs.Bodies.{destroyed}
 use Rattle.lookup.specs.Bodies.{bodies_of}
@@ -17,7 +17,7 @@ use Rattle.destroy_definition_call.proofs.destroy_definition.Goals as goal
 
 pub returns-then-not-passes : goal.returns-then-not-passes
 returns-then-not-passes c =
-    bad (destroy_definition c.args.definition) c.args.store.now (length c.args.out.now) c.args.out.now
+    bad_by (destroy_definition c.args.definition) c.args.store.now (length c.args.out.now) c.args.out.now
     (ap not c.if-not-passes.true) c.passes.ensures
 
 pub destroy_condition-requires : goal.destroy_condition-requires
@@ -28,7 +28,7 @@ pub returns-in_err-destroy_condition : goal.returns-in_err-destroy_condition
 returns-in_err-destroy_condition c =
     let passed_on = err_from_is_err_and c.from_residual.result c.from_residual.ensures.1 in
     rw (passed_on.1, passed_on.2)
-    (turned_away (destroy_definition c.args.definition) c.args.store.now (length c.args.out.now) c.args.out.now
+    (turned_away_by (destroy_definition c.args.definition) c.args.store.now (length c.args.out.now) c.args.out.now
     (ap not c.if-not-passes.false) c.passes.ensures c.in_err-destroy_condition.field-0.0 c.in_err-destroy_condition.ensures)
 
 pub destroy_limit-requires : goal.destroy_limit-requires

@@ -1,5 +1,5 @@
--- `destroy_element_call::destroy_element` meets its contract: the returns are for a bad store (`bad` of CallLaws), a
--- condition (`turned_away`) and the answer of `edit` (`made_planned` of Calls, `destroy_element_planned` of
+-- `destroy_element_call::destroy_element` meets its contract: the returns are for a bad store (`bad_by` of CallLaws), a
+-- condition (`turned_away_by`) and the answer of `edit` (`made_planned` of Calls, `destroy_element_planned` of
 -- CallsPlanned); what `edit` requires is `takes_asks` of Calls.
 use mathlib.Core.Path.{refl, ap}
 use mathlib.Core.Bool.{not}
@@ -11,13 +11,13 @@ use Rattle.store_laws.specs.Stores.{store_in}
 use Rattle.plans.specs.CallPlans.{destroy_element_plan}
 use Rattle.plans.proofs.CallsPlanned.{destroy_element_planned}
 use Rattle.row_walk.specs.declared.Which.TheVariants.{Everything, Serial}
-use Rattle.store_writer.proofs.CallLaws.{passed, bad, turned_away}
+use Rattle.store_writer.proofs.CallLaws.{passed, bad_by, turned_away_by}
 use Rattle.call_laws.proofs.Calls.{made_planned, takes_asks}
 use Rattle.destroy_element_call.proofs.destroy_element.Goals as goal
 
 pub returns-then-not-passes : goal.returns-then-not-passes
 returns-then-not-passes c =
-    bad (destroy_element c.args.element) c.args.store.now (length c.args.out.now) c.args.out.now (ap not c.if-not-passes.true)
+    bad_by (destroy_element c.args.element) c.args.store.now (length c.args.out.now) c.args.out.now (ap not c.if-not-passes.true)
     c.passes.ensures
 
 pub destroy_element_refusal-requires : goal.destroy_element_refusal-requires
@@ -28,7 +28,7 @@ pub returns-in_err-destroy_element_refusal : goal.returns-in_err-destroy_element
 returns-in_err-destroy_element_refusal c =
     let passed_on = err_from_is_err_and c.from_residual.result c.from_residual.ensures.1 in
     rw (passed_on.1, passed_on.2)
-    (turned_away (destroy_element c.args.element) c.args.store.now (length c.args.out.now) c.args.out.now (ap not c.if-not-passes.false)
+    (turned_away_by (destroy_element c.args.element) c.args.store.now (length c.args.out.now) c.args.out.now (ap not c.if-not-passes.false)
     c.passes.ensures c.in_err-destroy_element_refusal.field-0.0 c.in_err-destroy_element_refusal.ensures)
 
 pub edit-requires : goal.edit-requires

@@ -1,5 +1,5 @@
--- `document_call::add_document` meets its contract: the returns are for a bad store (`bad` of CallLaws), a condition
--- (`turned_away`) and the answer of `edit` (`made_planned` of Calls, `add_document_planned` of CallsPlanned); what
+-- `document_call::add_document` meets its contract: the returns are for a bad store (`bad_by` of CallLaws), a condition
+-- (`turned_away_by`) and the answer of `edit` (`made_planned` of Calls, `add_document_planned` of CallsPlanned); what
 -- `edit` requires is `add_document_asks` of Laws.
 use mathlib.Core.Path.{refl, ap}
 use mathlib.Core.Bool.{not}
@@ -9,14 +9,14 @@ use Rattle.rules.specs.Change.{add_document}
 use Rattle.store_laws.specs.Stores.{store_in}
 use Rattle.plans.specs.CallPlans.{add_document_plan}
 use Rattle.plans.proofs.CallsPlanned.{add_document_planned}
-use Rattle.store_writer.proofs.CallLaws.{passed, bad, turned_away}
+use Rattle.store_writer.proofs.CallLaws.{passed, bad_by, turned_away_by}
 use Rattle.call_laws.proofs.Calls.{made_planned}
 use Rattle.document_call.proofs.Laws.{add_document_asks}
 use Rattle.document_call.proofs.add_document.Goals as goal
 
 pub returns-then-not-passes : goal.returns-then-not-passes
 returns-then-not-passes c =
-    bad (add_document c.args.definition c.args.text.now) c.args.store.now (length c.args.out.now) c.args.out.now
+    bad_by (add_document c.args.definition c.args.text.now) c.args.store.now (length c.args.out.now) c.args.out.now
     (ap not c.if-not-passes.true) c.passes.ensures
 
 pub add_document_refusal-requires : goal.add_document_refusal-requires
@@ -27,7 +27,7 @@ pub returns-in_err-add_document_refusal : goal.returns-in_err-add_document_refus
 returns-in_err-add_document_refusal c =
     let passed_on = err_from_is_err_and c.from_residual.result c.from_residual.ensures.1 in
     rw (passed_on.1, passed_on.2)
-    (turned_away (add_document c.args.definition c.args.text.now) c.args.store.now (length c.args.out.now)
+    (turned_away_by (add_document c.args.definition c.args.text.now) c.args.store.now (length c.args.out.now)
     c.args.out.now (ap not c.if-not-passes.false) c.passes.ensures c.in_err-add_document_refusal.field-0.0 c.in_err-add_document_refusal.ensures)
 
 pub edit-requires : goal.edit-requires

@@ -1,5 +1,5 @@
--- `flatten_call::flatten_group` meets its contract: a store that does not pass is refused with 1 (`bad` of
--- CallLaws), a condition that holds gives its number (`turned_away`); else the edit fits its place (`flatten_fits`
+-- `flatten_call::flatten_group` meets its contract: a store that does not pass is refused with 1 (`bad_by` of
+-- CallLaws), a condition that holds gives its number (`turned_away_by`); else the edit fits its place (`flatten_fits`
 -- of Laws; `asks` of Fits) and keeps all rows (`kept_answers` of Keeping, by `flatten_form`, `flatten_plan`).
 use mathlib.Core.Bool.{not}
 use mathlib.Core.Path.{refl, sym, ap}
@@ -8,7 +8,7 @@ use Rattle.std.proofs.lemmas.Result.{err_from_is_err_and}
 use Rattle.rules.specs.Lines.{lines}
 use Rattle.rules.specs.Change.{flatten_group}
 use Rattle.store_laws.specs.Stores.{store_in}
-use Rattle.store_writer.proofs.CallLaws.{passed, bad, turned_away}
+use Rattle.store_writer.proofs.CallLaws.{passed, bad_by, turned_away_by}
 use Rattle.model_edit.proofs.Fits.{asks}
 use Rattle.model_edit.proofs.Keeping.{kept_answers, keeping_sized}
 use Rattle.flatten_call.proofs.Laws.{flatten_fits, flatten_form, flatten_plan}
@@ -20,7 +20,7 @@ use Rattle.flatten_call.proofs.flatten_group.Goals as goal
 pub returns-then-not-passes : goal.returns-then-not-passes
 returns-then-not-passes c =
     let a = c.args in
-    bad (flatten_group a.owner a.place.now) a.store.now (length a.out.now) a.out.now
+    bad_by (flatten_group a.owner a.place.now) a.store.now (length a.out.now) a.out.now
     (ap not c.if-not-passes.true) c.passes.ensures
 
 pub flatten_group_refusal-requires : goal.flatten_group_refusal-requires
@@ -32,7 +32,7 @@ returns-in_err-group c =
     let a = c.args in
     let p = err_from_is_err_and c.from_residual.result c.from_residual.ensures.1 in
     rw (p.1, p.2)
-    (turned_away (flatten_group a.owner a.place.now) a.store.now (length a.out.now) a.out.now
+    (turned_away_by (flatten_group a.owner a.place.now) a.store.now (length a.out.now) a.out.now
     (ap not c.if-not-passes.false) c.passes.ensures c.in_err-group.field-0.0 c.in_err-group.ensures.0)
 
 pub edit_model-requires : goal.edit_model-requires

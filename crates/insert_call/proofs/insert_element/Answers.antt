@@ -1,5 +1,5 @@
 -- `insert_call::insert_element` meets its contract: the call is refused on a bad store and by a condition
--- (`bad`, `turned_away` of CallLaws). Else what its calls require holds, as no condition does (`insertion`
+-- (`bad_by`, `turned_away_by` of CallLaws). Else what its calls require holds, as no condition does (`insertion`
 -- of Insertion), and `edit_model` writes what the change leaves (`inserted_answers`).
 use mathlib.Core.Bool.{not}
 use native.Mathlib.Omega.{arith}
@@ -9,7 +9,7 @@ use Rattle.std.proofs.lemmas.Result.{err_from_is_err_and}
 use Rattle.rules.specs.Decode.{quantifier_of}
 use Rattle.rules.specs.Change.{insert_element}
 use Rattle.model_writer.specs.declared.Edit.TheVariants.{Insert}
-use Rattle.store_writer.proofs.CallLaws.{passed, bad, turned_away}
+use Rattle.store_writer.proofs.CallLaws.{passed, bad_by, turned_away_by}
 use Rattle.model_edit.proofs.Fits.{asks, owner_fits, place_low}
 use Rattle.insert_call.proofs.Insertion.{insertion, edit_same, inserting_sized, inserted_answers}
 use borrow.Author.Rules.{rules}
@@ -18,7 +18,7 @@ use Rattle.insert_call.proofs.insert_element.Goals as goal
 pub returns-then-not-passes : goal.returns-then-not-passes
 returns-then-not-passes c =
     let a = c.args in
-    bad (insert_element a.owner a.place.now a.definition a.quantifier a.text.now) a.store.now (length a.out.now) a.out.now
+    bad_by (insert_element a.owner a.place.now a.definition a.quantifier a.text.now) a.store.now (length a.out.now) a.out.now
     (ap not c.if-not-passes.true) c.passes.ensures
 
 pub insert_element_refusal-requires : goal.insert_element_refusal-requires
@@ -30,7 +30,7 @@ returns-in_err-gap c =
     let a = c.args in
     let p = err_from_is_err_and c.from_residual.result c.from_residual.ensures.1 in
     rw (p.1, p.2)
-    (turned_away (insert_element a.owner a.place.now a.definition a.quantifier a.text.now) a.store.now (length a.out.now) a.out.now
+    (turned_away_by (insert_element a.owner a.place.now a.definition a.quantifier a.text.now) a.store.now (length a.out.now) a.out.now
     (ap not c.if-not-passes.false) c.passes.ensures c.in_err-gap.field-0.0 c.in_err-gap.ensures.0)
 
 pub own_part-part-requires : goal.own_part-part-requires

@@ -1,5 +1,5 @@
--- `quantifier_calls::requantify` meets its contract: the returns are for a bad store (`bad` of CallLaws), a
--- condition (`turned_away`) and the answer of `edit_model` (`given_answers` of Requantified); what the calls
+-- `quantifier_calls::requantify` meets its contract: the returns are for a bad store (`bad_by` of CallLaws), a
+-- condition (`turned_away_by`) and the answer of `edit_model` (`given_answers` of Requantified); what the calls
 -- require is by `given` of Fitting, `owner_fits` of Fits, `edits_there` of Answering, `given_stands` and `given_sized`.
 use mathlib.Core.Bool.{not}
 use native.Mathlib.Omega.{arith}
@@ -7,7 +7,7 @@ use mathlib.Core.Path.{refl, sym, ap}
 use lib.ListN.{length}
 use Rattle.std.proofs.lemmas.Result.{err_from_is_err_and}
 use Rattle.quantifier_refusals.specs.Requantifying.{requantify}
-use Rattle.store_writer.proofs.CallLaws.{passed, bad, turned_away}
+use Rattle.store_writer.proofs.CallLaws.{passed, bad_by, turned_away_by}
 use Rattle.model_edit.proofs.Fits.{owner_fits}
 use Rattle.quantifier_calls.proofs.Fitting.{given as conditions-given}
 use Rattle.quantifier_calls.proofs.Answering.{edits_there}
@@ -18,7 +18,7 @@ use Rattle.quantifier_calls.proofs.requantify.Goals as goal
 pub returns-then-not-passes : goal.returns-then-not-passes
 returns-then-not-passes c =
     let a = c.args in
-    bad (requantify a.group a.owner a.place.now a.quantifier a.text.now) a.store.now (length a.out.now) a.out.now
+    bad_by (requantify a.group a.owner a.place.now a.quantifier a.text.now) a.store.now (length a.out.now) a.out.now
     (ap not c.if-not-passes.true) c.passes.ensures
 
 pub requantify_refusal-requires : goal.requantify_refusal-requires
@@ -30,7 +30,7 @@ returns-in_err-found c =
     let a = c.args in
     let p = err_from_is_err_and c.from_residual.result c.from_residual.ensures.1 in
     rw (p.1, p.2)
-    (turned_away (requantify a.group a.owner a.place.now a.quantifier a.text.now) a.store.now (length a.out.now) a.out.now
+    (turned_away_by (requantify a.group a.owner a.place.now a.quantifier a.text.now) a.store.now (length a.out.now) a.out.now
     (ap not c.if-not-passes.false) c.passes.ensures c.in_err-found.field-0.0 c.in_err-found.ensures.0)
 
 pub overflow_cast-quantifier : goal.overflow_cast-quantifier

@@ -1,5 +1,5 @@
 -- `remove_call::remove_element` meets its contract: the call is refused on a bad store and by a condition
--- (`bad`, `turned_away` of CallLaws). Else an element stands at the place (`remove_fits` of Removing), and
+-- (`bad_by`, `turned_away_by` of CallLaws). Else an element stands at the place (`remove_fits` of Removing), and
 -- `edit_model` writes what the change leaves (`removed_answers`).
 use mathlib.Core.Bool.{not}
 use mathlib.Core.Path.{refl, sym, ap}
@@ -7,7 +7,7 @@ use lib.ListN.{length}
 use Rattle.std.proofs.lemmas.Result.{err_from_is_err_and}
 use Rattle.rules.specs.Change.{remove_element}
 use Rattle.model_writer.specs.declared.Edit.TheVariants.{Remove}
-use Rattle.store_writer.proofs.CallLaws.{passed, bad, turned_away}
+use Rattle.store_writer.proofs.CallLaws.{passed, bad_by, turned_away_by}
 use Rattle.model_edit.proofs.Fits.{asks, owner_fits, place_low}
 use Rattle.remove_call.proofs.Removing.{remove_fits, removed_answers, removing_sized}
 use borrow.Author.Rules.{rules}
@@ -18,7 +18,7 @@ use Rattle.remove_call.proofs.remove_element.Goals as goal
 pub returns-then-not-passes : goal.returns-then-not-passes
 returns-then-not-passes c =
     let a = c.args in
-    bad (remove_element a.owner a.place.now) a.store.now (length a.out.now) a.out.now
+    bad_by (remove_element a.owner a.place.now) a.store.now (length a.out.now) a.out.now
     (ap not c.if-not-passes.true) c.passes.ensures
 
 pub remove_element_refusal-requires : goal.remove_element_refusal-requires
@@ -30,7 +30,7 @@ returns-in_err-element c =
     let a = c.args in
     let p = err_from_is_err_and c.from_residual.result c.from_residual.ensures.1 in
     rw (p.1, p.2)
-    (turned_away (remove_element a.owner a.place.now) a.store.now (length a.out.now) a.out.now
+    (turned_away_by (remove_element a.owner a.place.now) a.store.now (length a.out.now) a.out.now
     (ap not c.if-not-passes.false) c.passes.ensures c.in_err-element.field-0.0 c.in_err-element.ensures.0)
 
 pub own_part-requires : goal.own_part-requires

@@ -1,5 +1,5 @@
 -- `set_attribute_call::set_attribute` meets its contract: the call is refused on a bad store and by a condition
--- (`bad`, `turned_away` of CallLaws). Else what its calls require holds (`set_attribute_there`, `set_attribute_asks` of
+-- (`bad_by`, `turned_away_by` of CallLaws). Else what its calls require holds (`set_attribute_there`, `set_attribute_asks` of
 -- Laws), and the plan does what the change does (`set_attribute_planned` of CallsPlanned, `made_planned` of Calls).
 use mathlib.Core.Path.{refl, ap}
 use mathlib.Core.Bool.{not}
@@ -9,14 +9,14 @@ use Rattle.rules.specs.Change.{set_attribute}
 use Rattle.store_laws.specs.Stores.{store_in}
 use Rattle.plans.specs.CallPlans.{set_attribute_plan, attribute_serial}
 use Rattle.plans.proofs.CallsPlanned.{set_attribute_planned}
-use Rattle.store_writer.proofs.CallLaws.{passed, bad, turned_away}
+use Rattle.store_writer.proofs.CallLaws.{passed, bad_by, turned_away_by}
 use Rattle.call_laws.proofs.Calls.{made_planned}
 use Rattle.set_attribute_call.proofs.Laws.{set_attribute_asks, set_attribute_there}
 use Rattle.set_attribute_call.proofs.set_attribute.Goals as goal
 
 pub returns-then-not-passes : goal.returns-then-not-passes
 returns-then-not-passes c =
-    bad (set_attribute c.args.element c.args.attribute c.args.value.now) c.args.store.now (length c.args.out.now)
+    bad_by (set_attribute c.args.element c.args.attribute c.args.value.now) c.args.store.now (length c.args.out.now)
     c.args.out.now (ap not c.if-not-passes.true) c.passes.ensures
 
 pub set_attribute_refusal-requires : goal.set_attribute_refusal-requires
@@ -27,7 +27,7 @@ pub returns-in_err-set_attribute_refusal : goal.returns-in_err-set_attribute_ref
 returns-in_err-set_attribute_refusal c =
     let passed_on = err_from_is_err_and c.from_residual.result c.from_residual.ensures.1 in
     rw (passed_on.1, passed_on.2)
-    (turned_away (set_attribute c.args.element c.args.attribute c.args.value.now) c.args.store.now
+    (turned_away_by (set_attribute c.args.element c.args.attribute c.args.value.now) c.args.store.now
     (length c.args.out.now) c.args.out.now (ap not c.if-not-passes.false) c.passes.ensures
     c.in_err-set_attribute_refusal.field-0.0 c.in_err-set_attribute_refusal.ensures)
 

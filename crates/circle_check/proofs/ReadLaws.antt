@@ -23,7 +23,7 @@ use Rattle.codec.specs.Part.{part_of}
 use Rattle.codec.proofs.Strings.{part_there}
 use Rattle.layout.proofs.LayoutLaws.{record_first, record_after}
 use Rattle.circle_check.specs.Members.{count_at, start_at, model_bytes, elements_of, members_in}
-use Rattle.std.specs.Prelude.{Option, IsSome}
+use Rattle.std.specs.Prelude.{Result, IsOk}
 use Rattle.circle_check.specs.Deep.{deep_index, Ranked}
 use Rattle.circle_check.proofs.CircleLaws.{Models, Indexed, fit_within, fit_acyclic}
 use Rattle.codec.proofs.Records.{length_many, many_part}
@@ -226,14 +226,14 @@ module _ {defs parts : Bytes} {n p : ℕ} (g : Readable defs parts n p) (cs : Li
       at i l = let z : 0 + i ≡ i = omega arith in ap (members_in defs parts) z ∙ members_read defs parts n p g.few g.long i l
 
   -- the heights fit just where all indices are those of definitions and no definition reaches itself
-  pub fit_read : {r : Option Bytes} → Ranked n (members_in defs parts) r → IsSome r ↔ (Within n (members_in defs parts) × ((x : Bytes) → Reaches (form_read defs parts n p cs) x x → ⊥))
+  pub fit_read : {r : Result Bytes Bytes} → Ranked n (members_in defs parts) r → IsOk r ↔ (Within n (members_in defs parts) × ((x : Bytes) → Reaches (form_read defs parts n p cs) x x → ⊥))
   fit_read {r} k = (to, from)
     where
-      to : IsSome r → Within n (members_in defs parts) × ((x : Bytes) → Reaches (form_read defs parts n p cs) x x → ⊥)
+      to : IsOk r → Within n (members_in defs parts) × ((x : Bytes) → Reaches (form_read defs parts n p cs) x x → ⊥)
       to e =
           let f = k.fit.0 e in
           let w = fit_within n (members_in defs parts) f in
           (w, (fit_acyclic (form_read_lem w)).0 (subst (λ (m : ℕ). (i : ℕ) → i < m → deep_index (members_in defs parts) m m i ≡ true) (sym count_read) f))
 
-      from : Within n (members_in defs parts) × ((x : Bytes) → Reaches (form_read defs parts n p cs) x x → ⊥) → IsSome r
+      from : Within n (members_in defs parts) × ((x : Bytes) → Reaches (form_read defs parts n p cs) x x → ⊥) → IsOk r
       from (w, a) = k.fit.1 (subst (λ (m : ℕ). (i : ℕ) → i < m → deep_index (members_in defs parts) m m i ≡ true) count_read ((fit_acyclic (form_read_lem w)).1 a))

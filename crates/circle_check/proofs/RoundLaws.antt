@@ -8,7 +8,7 @@ use mathlib.Core.Logic.{◌↔◌}
 use mathlib.Core.Bool.{Bool, true, false, not, ◌&&◌, false≢true, and-false}
 use mathlib.Core.List.{List, [], ◌∷◌, Memᴰ}
 use lib.Dec.{ltb, leb, eqb}
-use Rattle.std.specs.Prelude.{Some, None}
+use Rattle.std.specs.Prelude.{Ok, Err}
 use lib.ListN.{length, get_or, set, replicate, length-set, length-replicate}
 use lib.Seq.{get_or-set_same, get_or-set_other}
 use borrow.Author.Tests.{lt-ltb, le-ltb, le-leb, lt-leb, eq-eqb, ne_eqb, ltb-true, ltb-false, eqb-true, eqb-false}
@@ -199,16 +199,16 @@ rounds_on {n} {members} {old} {l} {r} s g f = rw (add-one r) (record { is = λ i
         rw (known i k) (raise_low r (λ h. deep_index members n h i) (get_or old i 0) (all (has_height old) (members i)) (s.is i) (s.most i) (now i k) (deep_index_more members n r i))
     most i false e = omega (arith, f.others i (ltb-false i n e))
 
--- the answer after n rounds: the heights where each of the n has one, else none
+-- the answer after n rounds: the heights, as an error where one of the n has none
 module _ {n : ℕ} {members : ℕ → List ℕ} {l : Bytes} {h : ℕ} (s : Rounds n members l h) (g : n ≤ h) where
   all_deep : ((i : ℕ) → i < n → has_height l i ≡ true) ↔ ((i : ℕ) → i < n → deep_index members n n i ≡ true)
   all_deep = let z : h ≡ n = omega (arith, s.low) in (λ f i q. rw z at (sym (marked_is s i) ∙ f i q), λ f i q. marked_is s i ∙ rw z (f i q))
 
-  pub rounds_end : ((i : ℕ) → i < n → has_height l i ≡ true) → Ranked n members (Some l)
-  rounds_end w = record { fit = (λ _. all_deep.0 w, λ _. refl); height = λ of e i k q. let z : of ≡ l = cc in rw z (s.is i k (omega arith)) }
+  pub rounds_end : ((i : ℕ) → i < n → has_height l i ≡ true) → Ranked n members (Ok l)
+  rounds_end w = record { fit = (λ _. all_deep.0 w, λ _. refl); height = λ i k q. s.is i k (omega arith) }
 
-  pub rounds_fail : (((i : ℕ) → i < n → has_height l i ≡ true) → ⊥) → Ranked n members None
-  rounds_fail w = record { fit = (λ e. absurd (false≢true e), λ f. absurd (w (all_deep.1 f))); height = λ of e. cc }
+  pub rounds_fail : (((i : ℕ) → i < n → has_height l i ≡ true) → ⊥) → Ranked n members (Err l)
+  rounds_fail w = record { fit = (λ e. absurd (false≢true e), λ f. absurd (w (all_deep.1 f))); height = λ i k q. s.is i k (omega arith) }
 
 -- ---- the marks of the first n
 pub record Passed (l : Bytes) (n i : ℕ) : Type 0 where

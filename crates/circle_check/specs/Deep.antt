@@ -1,5 +1,5 @@
 -- Heights of definitions, as indices: the longest chain of members from each.
-use Rattle.std.specs.Prelude.{ℕ, zero, suc, ◌<◌, ◌≤◌, ◌≡◌, ◌↔◌, Bool, true, false, ◌&&◌, not, List, ltb, eqb, get_or, Option, Some, IsSome}
+use Rattle.std.specs.Prelude.{ℕ, zero, suc, ◌<◌, ◌≤◌, ◌≡◌, ◌↔◌, Bool, true, false, ◌&&◌, not, List, ltb, eqb, get_or, Result, Ok, Err, IsOk}
 use Rattle.rules.specs.Bytes.{Bytes, all, between}
 use Rattle.rules.specs.Decode.{read_particle}
 
@@ -27,7 +27,13 @@ pub record Round (n : ℕ) (members : ℕ → List ℕ) (h : ℕ) (old new : Byt
   pub others : (i : ℕ) → n ≤ i → get_or new i 0 ≡ 0
 
 -- ---- the result
--- There are heights just where all chains end. A height is the least number of definitions within which they do.
-pub record Ranked (n : ℕ) (members : ℕ → List ℕ) (r : Option Bytes) : Type 0 where
-  pub fit : IsSome r ↔ ((i : ℕ) → i < n → deep_index members n n i ≡ true)
-  pub height : (of : Bytes) → r ≡ Some of → (i h : ℕ) → h ≤ n → deep_index members n h i ≡ between 1 h (get_or of i 0)
+-- the heights, whether all chains end or not
+abbrev pub heights_in : Result Bytes Bytes → Bytes
+heights_in (Ok of) = of
+heights_in (Err of) = of
+
+-- It is no error just where all chains end. A height is the least number of definitions within which all chains end, or
+-- 0 where that is more than n.
+pub record Ranked (n : ℕ) (members : ℕ → List ℕ) (r : Result Bytes Bytes) : Type 0 where
+  pub fit : IsOk r ↔ ((i : ℕ) → i < n → deep_index members n n i ≡ true)
+  pub height : (i h : ℕ) → h ≤ n → deep_index members n h i ≡ between 1 h (get_or (heights_in r) i 0)

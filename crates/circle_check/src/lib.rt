@@ -85,9 +85,14 @@ fn whole(n: usize, heights: &[u8; MAX_DEFINITIONS]) -> bool
     true
 }
 
-/// The heights of the n definitions, each more than those of its members, if every chain of members ends. No height is
-/// more than n, so n rounds over all particles settle it.
-pub fn heights_of(n: usize, defs: &[u8], parts: &[u8]) -> Option<[u8; MAX_DEFINITIONS]>
+/// The heights of the n definitions, each more than those of its members, if every chain of members ends. Else, as the
+/// error, the heights of those from which every chain ends, and 0 for the others. No height is more than n, so n rounds
+/// over all particles settle it.
+pub fn heights_of(
+    n: usize,
+    defs: &[u8],
+    parts: &[u8],
+) -> Result<[u8; MAX_DEFINITIONS], [u8; MAX_DEFINITIONS]>
     requires { n ≤ 64 }
     ensures { Ranked n (members_in defs.now parts.now) result }
 {
@@ -95,7 +100,7 @@ pub fn heights_of(n: usize, defs: &[u8], parts: &[u8]) -> Option<[u8; MAX_DEFINI
     for h in 0..n {
         of = round(n, defs, parts, &of, (h + 1) as u8);
     }
-    if whole(n, &of) { Some(of) } else { None }
+    if whole(n, &of) { Ok(of) } else { Err(of) }
 }
 
 /// Heights of the n definitions from which no chain leads to the target; 0 for the target, and for one that reaches it.

@@ -30,7 +30,7 @@ use Rattle.form_check.specs.Bodies.{Bodies, definitions, attributes, form_of_bod
 use Rattle.model_check.specs.Particles.{particles_read}
 use Rattle.form_check.proofs.Reading.{definitions_length}
 use Rattle.model_check.proofs.Reading.{particles_length}
-use Rattle.std.specs.Prelude.{Option, IsSome}
+use Rattle.std.specs.Prelude.{Result, IsOk}
 use Rattle.circle_check.specs.Members.{count_at, start_at, members_in}
 use Rattle.circle_check.specs.Deep.{Ranked}
 use Rattle.circle_check.proofs.CircleLaws.{Indexed}
@@ -168,6 +168,6 @@ module _ {w n : ℕ} {defs : Bytes} {p : ℕ} {parts : Bytes} {a : ℕ} {attrs :
       part_room i l = omega (arith, start_room defs n i l, start_all)
 
       -- the heights fit just where no definition reaches itself
-      pub circle_fit : {r : Option Bytes} → Ranked n (members_in defs parts) r → IsSome r ↔ ((x : Bytes) → Reaches (unflat (form_of_bodies w n defs p parts a attrs)).form x x → ⊥)
+      pub circle_fit : {r : Result Bytes Bytes} → Ranked n (members_in defs parts) r → IsOk r ↔ ((x : Bytes) → Reaches (unflat (form_of_bodies w n defs p parts a attrs)).form x x → ⊥)
       unfolding definitions particles_read
       circle_fit {r} k = (λ e. ((fit_read readable (attributes w a attrs) k).0 e).1, λ f. (fit_read readable (attributes w a attrs) k).1 (within, f))

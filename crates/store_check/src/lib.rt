@@ -36,7 +36,7 @@ fn form_fits(
     if !form_check::bodies_fit(w, n, defs, p, parts, a, attrs) {
         return false;
     }
-    circle_check::heights_of(n, defs, parts).is_some()
+    circle_check::heights_of(n, defs, parts).is_ok()
 }
 
 fn form_passes(store: &[u8], s: Shape) -> bool

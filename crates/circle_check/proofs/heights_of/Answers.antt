@@ -1,6 +1,6 @@
 -- `circle_check::heights_of` meets its contract: the invariant holds before the first round (`rounds_start` of
--- RoundLaws) and after each (`rounds_on`, by the contract of `round`); after n rounds it gives the heights where by
--- `whole` each definition has one (`rounds_end`), and else some chain does not end (`rounds_fail`).
+-- RoundLaws) and after each (`rounds_on`, by the contract of `round`); after n rounds it gives the heights: where by
+-- `whole` each definition has one every chain ends (`rounds_end`), and else some chain does not (`rounds_fail`).
 use mathlib.Core.Path.{sym, ◌∙◌}
 use mathlib.Core.Bool.{false≢true}
 use native.Mathlib.Omega.{arith}

@@ -18,4 +18,4 @@ pub returns : goal.returns
 returns c =
     form_by_lem (laid_of c.requires.1 c.shared_slice_known-1.given c.shared_slice_known-3-1.given)
     (kept (ap not c.if-not-definitions_fit.false) c.definitions_fit.ensures) (kept (ap not c.if-not-attributes_fit.false) c.attributes_fit.ensures)
-    (kept (ap not c.if-not-bodies_fit.false) c.bodies_fit.ensures) c.heights_of.ensures c.is_some.ensures
+    (kept (ap not c.if-not-bodies_fit.false) c.bodies_fit.ensures) c.heights_of.ensures c.is_ok.ensures.value

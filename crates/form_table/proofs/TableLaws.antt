@@ -23,7 +23,7 @@ use Rattle.form_index.specs.Reading.{model_part}
 use Rattle.form_table.specs.Every.{every}
 use Rattle.layout.specs.declared.Form.{Form}
 use Rattle.layout.specs.Form.{FormOf}
-use Rattle.form_table.specs.Table.{wants, Modelled, Tabled, Lined, SetsStay, OneNeed, Needs}
+use Rattle.form_table.specs.Table.{wants, Modelled, Tabled, form_in, Lined, SetsStay, OneNeed, Needs}
 use Rattle.form_table.proofs.Numbers.{every→, every←}
 
 -- ---- a line that is left alone
@@ -143,21 +143,26 @@ module _ (f : Form) (t : List ℕ) where
         }
 
 -- ---- the whole table
--- the table of the form of a byte string, however it is lent
-pub tabled_same : {bs : Bytes} {f f' : Form} {t : List ℕ} → FormOf bs f → FormOf bs f' → Tabled f t → Tabled f' t
-tabled_same {bs} {f} {f'} {t} a b x =
-    let n : f.definition_count ≡ f'.definition_count = a.definition_count ∙ sym b.definition_count in
-    let c : f.attribute_count ≡ f'.attribute_count = a.attribute_count ∙ sym b.attribute_count in
-    let v : f.version ≡ f'.version = a.version ∙ sym b.version in
-    let w : f.width ≡ f'.width = a.width ∙ sym b.width in
-    let d : f.definitions.now ≡ f'.definitions.now = a.definitions ∙ sym b.definitions in
-    let p : f.particles.now ≡ f'.particles.now = a.particles ∙ sym b.particles in
-    let s : f.attributes.now ≡ f'.attributes.now = a.attributes ∙ sym b.attributes in
-    record {
-      long = x.long;
-      models = record { line = λ k h. rw (← n, ← d, ← p) (x.models.line k (omega (arith, n))) };
-      needed = λ i h. record { is = λ j m. rw (← c, ← v, ← w, ← s) ((x.needed i (omega (arith, n))).is j m) };
-    }
+-- two forms of which a table says the same
+module _ {f f' : Form} (v : f.version ≡ f'.version) (w : f.width ≡ f'.width) (n : f.definition_count ≡ f'.definition_count)
+    (c : f.attribute_count ≡ f'.attribute_count) (d : f.definitions.now ≡ f'.definitions.now) (p : f.particles.now ≡ f'.particles.now)
+    (s : f.attributes.now ≡ f'.attributes.now) where
+  tabled_same : {t : List ℕ} → Tabled f t → Tabled f' t
+  tabled_same {t} x =
+      record {
+        long = x.long;
+        models = record { line = λ k h. rw (← n, ← d, ← p) (x.models.line k (omega (arith, n))) };
+        needed = λ i h. record { is = λ j m. rw (← c, ← v, ← w, ← s) ((x.needed i (omega (arith, n))).is j m) };
+      }
+
+-- the table of the form of a byte string, and of that form however it is lent
+module _ {bs : Bytes} {f : Form} (x : FormOf bs f) {t : List ℕ} where
+  pub tabled_in : Tabled f t → Tabled (form_in bs) t
+  tabled_in y = tabled_same x.version x.width x.definition_count x.attribute_count x.definitions x.particles x.attributes y
+
+  pub tabled_of : Tabled (form_in bs) t → Tabled f t
+  tabled_of y =
+      tabled_same (sym x.version) (sym x.width) (sym x.definition_count) (sym x.attribute_count) (sym x.definitions) (sym x.particles) (sym x.attributes) y
 
 -- ---- children, looked up
 module _ (f : Form) (t : List ℕ) (m : Modelled f f.definition_count t) (i : ℕ) (h : i < f.definition_count) (last : ℕ) (b : Bool) where

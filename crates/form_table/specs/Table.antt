@@ -1,11 +1,10 @@
 -- The table of a form: a line of 68 sets for each definition, filled once and looked up for each row.
 use Rattle.std.specs.Prelude.{ℕ, zero, suc, ◌+◌, ◌*◌, ◌<◌, ◌≤◌, ◌≡◌, Bool, true, not, ◌&&◌, ◌||◌, List, eqb, ltb, length, get_or}
 use Rattle.rules.specs.Bytes.{Bytes}
-use Rattle.rules.specs.Decode.{sort_of}
+use Rattle.rules.specs.Decode.{version_in, definition_count, particle_count, attribute_count, sort_of}
 use Rattle.rules.specs.Conforming.{must_be_present}
 use Rattle.layout.specs.declared.Form.{Form}
-use Rattle.layout.specs.Bodies.{Width}
-use Rattle.layout.specs.Form.{FormOf}
+use Rattle.layout.specs.Bodies.{Width, width_of, definitions_in, particles_in, attributes_in}
 use Rattle.sets.specs.Sets.{has}
 use Rattle.model.specs.Members.{all_members}
 use Rattle.next_children.specs.Line.{NextsLine}
@@ -46,9 +45,23 @@ pub record TabledForm (f : Form) (t : List ℕ) : Type 0 where
   pub few : FormFew f
   pub table : Tabled f t
 
--- .. of the form that a byte string says, however it is lent
+-- the form that a byte string says, as one that is lent
+abbrev pub form_in : Bytes → Form
+form_in bs =
+    record {
+      version = version_in bs;
+      width = width_of bs;
+      definition_count = definition_count bs;
+      particle_count = particle_count bs;
+      attribute_count = attribute_count bs;
+      definitions = record { ref_ptr = (0, 0); now = definitions_in bs };
+      particles = record { ref_ptr = (0, 0); now = particles_in bs };
+      attributes = record { ref_ptr = (0, 0); now = attributes_in bs };
+    }
+
+-- .. of the form that a byte string says
 pub record TableOf (bs : Bytes) (t : List ℕ) : Type 0 where
-  pub is : (f : Form) → FormOf bs f → Tabled f t
+  pub is : Tabled (form_in bs) t
 
 -- ---- while it is filled
 -- the models of the first i definitions, and no attribute yet

@@ -8,7 +8,7 @@ ghost use Rattle.model.specs.Members.{all_members};
 ghost use Rattle.model.specs.Steps.{steps, finishes};
 ghost use Rattle.form_index.specs.Reading.{model_part};
 ghost use Rattle.form_table.specs.Every.{every};
-ghost use Rattle.form_table.specs.Table.{freed_of, FormFew, Lined, Needed, OneNeed, Needs, TabledForm};
+ghost use Rattle.form_table.specs.Table.{freed_of, FormFew, Lined, Modelled, Needed, OneNeed, Needs, TabledForm};
 
 use layout::Form;
 
@@ -82,42 +82,35 @@ impl FormTable<'_> {
     {
         self.sets[68 * i + 67]
     }
+}
 
-    /// Whether the child `index` may come after `last` below definition i; what the table does not have is looked up
-    /// in the model.
-    pub fn may_follow(&self, i: usize, last: usize, index: usize) -> bool
-        requires { i < self.now.form.definition_count }
-        ensures { result
-            ≡ steps (all_members (model_part self.now.form.definitions.now self.now.form.particles.now i)) last index }
-    {
-        if (last <= self.form.definition_count) & (index < 64) {
-            return sets::contains(self.sets[68 * i + last], index);
-        }
-        automaton::steps(self.model(i), last, index)
+// ---- children, looked up
+/// Whether the child `index` may come after `last` below definition i; what the table does not have is looked up in the
+/// model.
+pub fn may_follow(form: &Form<'_>, sets: &[u64], i: usize, last: usize, index: usize) -> bool
+    requires { (form.now.definition_count ≤ 64) × (i < form.now.definition_count) × (4352 ≤ length sets.now) × Modelled form.now form.now.definition_count sets.now }
+    ensures { result ≡ steps (all_members (model_part form.now.definitions.now form.now.particles.now i)) last index }
+{
+    if (last <= form.definition_count) & (index < 64) {
+        return sets::contains(sets[68 * i + last], index);
     }
+    let part = form_index::model_part(form.definitions, form.particles, i);
+    automaton::steps(part, last, index)
+}
 
-    /// Whether no child is owed after `last` below definition i.
-    pub fn may_finish(&self, i: usize, last: usize) -> bool
-        requires { i < self.now.form.definition_count }
-        ensures { result
-            ≡ finishes (all_members (model_part self.now.form.definitions.now self.now.form.particles.now i)) last }
-    {
-        if last == 0 {
-            return sets::contains(self.sets[68 * i + 66], 0);
-        }
-        if last <= self.form.definition_count {
-            return sets::contains(self.sets[68 * i + 65], last - 1);
-        }
-        automaton::finishes(self.model(i), last)
+/// Whether no child is owed after `last` below definition i.
+pub fn may_finish(form: &Form<'_>, sets: &[u64], i: usize, last: usize) -> bool
+    requires { (form.now.definition_count ≤ 64) × (i < form.now.definition_count) × (4352 ≤ length sets.now) × Modelled form.now form.now.definition_count sets.now }
+    ensures { result ≡ finishes (all_members (model_part form.now.definitions.now form.now.particles.now i)) last }
+{
+    if last == 0 {
+        return sets::contains(sets[68 * i + 66], 0);
     }
-
-    // Definition i's part of the particles.
-    fn model(&self, i: usize) -> &[u8]
-        requires { i < self.now.form.definition_count }
-        ensures { result.now ≡ model_part self.now.form.definitions.now self.now.form.particles.now i }
-    {
-        form_index::model_part(self.form.definitions, self.form.particles, i)
+    if last <= form.definition_count {
+        return sets::contains(sets[68 * i + 65], last - 1);
     }
+    let part = form_index::model_part(form.definitions, form.particles, i);
+    automaton::finishes(part, last)
 }
 
 // ---- attributes, looked up

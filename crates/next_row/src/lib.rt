@@ -37,7 +37,7 @@ fn child_may(t: &FormTable<'_>, i: usize, last: usize, sort: u8, index: usize) -
     match form_index::content_kind(t.form.definitions, i) {
         Kind::Empty => false,
         Kind::Pcdata => (sort == 3) & (last == 0),
-        Kind::Complex => (sort == 1) & t.may_follow(i, last, index),
+        Kind::Complex => (sort == 1) & form_table::may_follow(&t.form, t.sets, i, last, index),
     }
 }
 
@@ -49,7 +49,7 @@ fn children_end(t: &FormTable<'_>, i: usize, last: usize) -> bool
     match form_index::content_kind(t.form.definitions, i) {
         Kind::Empty => true,
         Kind::Pcdata => last != 0,
-        Kind::Complex => t.may_finish(i, last),
+        Kind::Complex => form_table::may_finish(&t.form, t.sets, i, last),
     }
 }
 

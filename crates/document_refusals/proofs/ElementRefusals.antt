@@ -1,14 +1,14 @@
 -- The conditions of 12 and 13: what the code finds, put together.
-use Prim.Native.Nat.{ℕ, suc, ◌<◌, ◌≤◌}
+use Prim.Native.Nat.{ℕ, zero, suc, ◌-◌, ◌<◌, ◌≤◌}
 use native.Mathlib.Omega.{arith}
-use borrow.Author.Tests.{lt-ltb, le-ltb, le-leb, lt-leb}
-use mathlib.Core.Path.{◌≡◌, refl, sym, ap, ◌∙◌}
+use borrow.Author.Tests.{lt-ltb, le-ltb, ne_eqb}
+use mathlib.Core.Path.{◌≡◌, refl, sym, ap, ap₂, ◌∙◌}
 use mathlib.Core.Logic.{⊎_elim}
 use mathlib.Core.Bool.{Bool, true, false, ◌&&◌, not, false≢true}
 use mathlib.Core.Option.{some}
 use mathlib.Core.List.Memᴰ
 use mathlib.Core.List.{List, [], ◌∷◌, map, Memᴰ}
-use lib.Dec.{leb, ltb}
+use lib.Dec.{eqb, ltb}
 use Rattle.std.specs.Prelude.{Some, None}
 use lib.ListN.{length, length-map}
 use Rattle.rules.specs.Bytes.{Bytes, bytes}
@@ -17,21 +17,20 @@ use Rattle.rules.specs.Store.{Content, empty, pcdata, complex, Definition, eleme
 use Rattle.rules.specs.Layout.{FlatRow, value_width, kind_code, index_of}
 use Rattle.rules.specs.WellFormed.{lookup, is_there, known}
 use Rattle.rules.specs.Conforming.{name_of, ElementRows, RowConforms, conforming}
-use Rattle.rules.specs.Lines.{is_element_row, element_with, children_of}
+use Rattle.rules.specs.Lines.{is_element_row, element_with, children_of, serial_at}
 use Rattle.rules.specs.Change.{add_document, add_element, destroy_element, name_at_index, after}
 use Rattle.rules.specs.Refusal.{Condition, ◌if◌, first, conditions, past_end, rows_of, bad_text, is_complex}
 use Rattle.change_laws.proofs.RowEdits.{row_serial, keep}
 use Rattle.change_laws.proofs.Conditions.{not_past}
 use Rattle.change_laws.proofs.StandingLaws.{standing_child, standing_every, no_zero, children_are}
 use Rattle.model.specs.Steps.{runs}
-use Rattle.store_check.proofs.AttributeRows.{row_written}
 use Rattle.store_check.proofs.IndexLaws.{name_of_lem}
 use Rattle.store_laws.specs.Stores.{store_in}
-use Rattle.document_rows.specs.Finding.{ParentAt, model_at, row_definition_kind, fits_at, has_place, word}
+use Rattle.document_rows.specs.Finding.{ParentAt, model_at, row_definition_kind, children_at, fits_at, has_place, serial_in, word}
 use Rattle.change_laws.specs.FirstCondition.{Gives}
 use Rattle.form_index.specs.Reading.{by_index}
 use Rattle.store_check.proofs.StoreFacts.{form_in, docs_in, Whole}
-use Rattle.document_rows.proofs.ElementFacts.{Element, NoElement, Parent, parent_there, parent_absent, defined, elements_at}
+use Rattle.document_rows.proofs.ElementFacts.{Element, NoElement, Parent, parent_there, parent_absent, defined, elements_at, serials_at}
 use Rattle.document_refusals.proofs.ElementTests.{put_at}
 use Rattle.document_refusals.proofs.ElementsAfter.{ok, add_conforms, destroy_conforms, root_conforms}
 use Rattle.document_refusals.proofs.IndexWords.{AllPlain, Named, word_less, word_more, named_runs}
@@ -50,9 +49,14 @@ keep_is test (s ∷ rows) r m = by (test s) refl (keep_is test rows r)
     by true e f = ⊎_elim (λ q. ap test q ∙ e) f (Memᴰ.cases_cons (rw (e, keep) at m))
     by false e f = f (rw (e, keep) at m)
 
--- at least j, or fewer
-leb_not : (j m : ℕ) → leb j m ≡ not (ltb m j)
-leb_not j m = ⊎_elim (λ h. lt-leb j m h ∙ sym (ap not (lt-ltb m j h))) (λ h. le-leb j m h ∙ sym (ap not (le-ltb m j h))) (below_or m j)
+-- number j is missing where there are no more than j
+counted : (j : ℕ) (rows : List Row) → ((r : Row) → Memᴰ r rows → r.serial ≡ 0 → ⊥) → eqb (serial_at j (map row_serial rows)) 0 ≡ ltb (length (map row_serial rows)) (suc j)
+counted j [] f = sym (lt-ltb 0 (suc j) (omega arith))
+counted zero (r ∷ rows) f = ne_eqb r.serial 0 (f r (Memᴰ.head refl)) ∙ sym (le-ltb (suc (length (map row_serial rows))) 1 (omega arith))
+counted (suc j) (r ∷ rows) f = counted j rows (λ s m. f s (Memᴰ.tail m)) ∙ shift (length (map row_serial rows)) (suc j)
+  where
+    shift : (m n : ℕ) → ltb m n ≡ ltb (suc m) (suc n)
+    shift m n = ⊎_elim (λ h. lt-ltb m n h ∙ sym (lt-ltb (suc m) (suc n) (omega arith))) (λ h. le-ltb m n h ∙ sym (le-ltb (suc m) (suc n) (omega arith))) (below_or m n)
 
 module _ (bs : Bytes) (w : Whole bs) where
   -- ---- the element children of a row, in its model
@@ -104,11 +108,22 @@ module _ (bs : Bytes) (w : Whole bs) where
     kids_of = ap (λ (z : ℕ). children_of is_element_row z (rows_of (store_in bs))) (sym e.serial)
         ∙ children_are (store_in bs).next (docs_in bs) w.good.serials is_element_row e.row e.below e.stands
 
+    serials : map serial_in (children_at bs 1 i) ≡ map row_serial kids
+    serials = serials_at bs w k i e 1 is_element_row (elements_at bs w k i e) ∙ kids_of
+
+    place_more : (j : ℕ) → has_place bs i (suc j) ≡ not (eqb (serial_at (suc j - 1) (map serial_in (children_at bs 1 i))) 0)
+    unfolding has_place
+    place_more j = rw (ne_eqb (suc j) 0 (λ z. omega arith), has_place)
+
     pub place_is : (j : ℕ) → has_place bs i j ≡ not (ltb (length (children_of is_element_row k (rows_of (store_in bs)))) j)
-    place_is j =
-        ap (λ (z : List FlatRow). leb j (length z)) (elements_at bs w k i e)
-        ∙ ap (leb j) (length-map kids (row_written (form_in bs) e.row.name) ∙ sym (length-map kids row_serial) ∙ ap (λ (z : List ℕ). length z) (sym kids_of))
-        ∙ leb_not j (length (children_of is_element_row k (rows_of (store_in bs))))
+    unfolding has_place
+    place_is zero = sym (ap not (le-ltb (length (children_of is_element_row k (rows_of (store_in bs)))) 0 (omega arith)))
+    place_is (suc j) =
+        let q : suc j - 1 ≡ j = omega arith in
+        place_more j
+        ∙ ap₂ (λ (n : ℕ) (z : List ℕ). not (eqb (serial_at n z) 0)) q serials
+        ∙ ap not (counted j kids (λ r m. (plain r m).given))
+        ∙ ap (λ (z : List ℕ). not (ltb (length z) (suc j))) (sym kids_of)
 
   -- ---- 13
   module _ {k : ℕ} where

@@ -1,20 +1,18 @@
 -- Rows from a number on: one more is looked at.
-use Prim.Native.Nat.{ℕ, zero, suc, ◌+◌, ◌-◌, ◌*◌, ◌<◌, ◌≤◌}
-use native.Mathlib.Omega.{arith}
+use Prim.Native.Nat.{ℕ, suc, ◌+◌, ◌<◌, ◌≤◌}
 use borrow.Author.Tests.{lt-ltb, le-ltb}
 use mathlib.Core.Path.{◌≡◌, refl, sym, ap, ◌∙◌}
-use mathlib.Core.Bool.{Bool, true, false, ◌&&◌}
+use mathlib.Core.Bool.{true, false, ◌&&◌}
 use mathlib.Core.List.{List, [], ◌∷◌}
-use lib.Dec.{eqb, ltb}
-use lib.ListN.{length, drop}
+use lib.Dec.{eqb}
 use Rattle.rules.specs.Bytes.{Bytes}
 use Rattle.rules.specs.Preorder.{Deep}
 use Rattle.rules.specs.Layout.{row_size, FlatRow}
-use Rattle.rules.specs.Decode.{read_row, read_many}
+use Rattle.rules.specs.Decode.{read_row}
 use Rattle.layout.specs.Bodies.{record_at}
 use Rattle.lookup.proofs.Laws.{from_step, from_none}
-use Rattle.document_rows.specs.Finding.{BeginsAt, children, children_below, Test, seek}
-use Rattle.lookup.specs.Bodies.{rows_from, records_from}
+use Rattle.document_rows.specs.Finding.{BeginsAt, children, Test, seek}
+use Rattle.lookup.specs.Bodies.{rows_from}
 
 abbrev pub row_at : ℕ → Bytes → ℕ → Deep FlatRow
 row_at w rows i = read_row (record_at (row_size w) i rows)
@@ -86,24 +84,3 @@ module _ (w s d : ℕ) (rows : Bytes) (count i : ℕ) where
 
   pub step_none : count ≤ i → children s d (rows_from w rows count i) ≡ []
   step_none h = ap (children s d) (from_none read_row (row_size w) rows count i h) ∙ children_nil s d
-
--- there are no more than the rows
-children_most : (s d : ℕ) (xs : List (Deep FlatRow)) → length (children s d xs) ≤ length xs
-unfolding children
-children_most s d [] = omega arith
-children_most s d (x ∷ xs) = by (ltb x.depth d) refl (eqb x.depth d && eqb x.row.sort s) refl (children_most s d xs)
-  where
-    by : (a : Bool) → ltb x.depth d ≡ a → (b : Bool) → (eqb x.depth d && eqb x.row.sort s) ≡ b → length (children s d xs) ≤ length xs → length (children s d (x ∷ xs)) ≤ length (x ∷ xs)
-    by true p b q h = rw (p, children) (omega arith)
-    by false p true q h = rw (p, children) (rw q (omega arith))
-    by false p false q h = rw (p, children) (rw q (omega arith))
-
-length_read : (n : ℕ) (s : Bytes) (size : ℕ) → length (read_many read_row size n s) ≡ n
-length_read zero s size = refl
-length_read (suc n) s size = ap suc (length_read n (drop size s) size)
-
-pub below_few : (w s i : ℕ) (rows : Bytes) (count : ℕ) → length (children_below w rows count s i) ≤ count
-unfolding children_below records_from
-below_few w s i rows count =
-    let n = length_read (count - (i + 1)) (drop (row_size w * (i + 1)) rows) (row_size w) in
-    omega (arith, children_most s (suc (row_at w rows i).depth) (rows_from w rows count (i + 1)), n)

@@ -1,10 +1,11 @@
 -- Rows found by their serials, and the rows right below a row, over the rows of the tree body.
-use Rattle.std.specs.Prelude.{ℕ, suc, ◌+◌, ◌-◌, ◌<◌, ◌≤◌, ◌≡◌, Bool, true, false, ◌&&◌, List, [], ◌∷◌, ◌++◌, length, eqb, leb, ltb}
+use Rattle.std.specs.Prelude.{ℕ, suc, ◌+◌, ◌-◌, ◌<◌, ◌≤◌, ◌≡◌, Bool, true, false, ◌&&◌, not, List, [], ◌∷◌, ◌++◌, map, eqb, ltb}
 use Rattle.std.specs.Prelude.{Option, None, Some, MatchOption}
 use Rattle.rules.specs.Bytes.{Bytes, any}
 use Rattle.rules.specs.Model.{Members}
 use Rattle.rules.specs.Preorder.{Deep}
 use Rattle.rules.specs.Layout.{row_size, FlatRow}
+use Rattle.rules.specs.Lines.{serial_at}
 use Rattle.rules.specs.Decode.{read_row, row_count}
 use Rattle.lookup.specs.Bodies.{rows_from}
 use Rattle.model.specs.Members.{all_members}
@@ -116,5 +117,5 @@ pub record ParentAt (bs : Bytes) (k : ℕ) (r : Option ℕ) : Type 0 where
   pub few : row_count bs ≤ 4096
 
 -- it has at least n element children
-abbrev pub has_place : Bytes → ℕ → ℕ → Bool
-has_place bs i n = leb n (length (children_at bs 1 i))
+unfoldable pub has_place : Bytes → ℕ → ℕ → Bool
+has_place bs i n = elim (eqb n 0) [ true ↦ true | false ↦ not (eqb (serial_at (n - 1) (map serial_in (children_at bs 1 i))) 0) ]

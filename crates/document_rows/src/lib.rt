@@ -173,7 +173,7 @@ pub fn has_place(store: &[u8], i: usize, child: usize) -> bool
     requires { RowOf store.now i }
     ensures { result ≡ has_place store.now i child }
 {
-    child <= children(store, i, ELEMENT).count()
+    child == 0 || nth_at(store, i, ELEMENT, child - 1).unwrap_or(0) != 0
 }
 
 /// The serial of the text row right below an element.

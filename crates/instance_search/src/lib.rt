@@ -1,12 +1,8 @@
 //! Whether an instance of a definition exists.
 #![tactic(auto)]
 
-ghost use Rattle.std.specs.Prelude.{◌≡◌, [], ◌∷◌};
-ghost use Rattle.rules.specs.Refusal.{◌if◌, first};
-ghost use Rattle.rules.specs.Given.{number_given, refusal_number};
-ghost use Rattle.instance_search.specs.Instances.{has_instance};
-
-use rules::Refusal;
+ghost use Rattle.std.specs.Prelude.{◌≡◌};
+ghost use Rattle.instance_search.specs.Instances.{has_instance, refused_where};
 
 /// Whether an instance of a definition exists.
 pub fn instance_exists(store: &[u8], definition: u32) -> bool
@@ -25,8 +21,8 @@ pub fn instance_exists(store: &[u8], definition: u32) -> bool
 }
 
 /// The refusal that applies where an instance of a definition exists.
-pub fn instance_refusal(store: &[u8], definition: u32, refusal: Refusal) -> Result<(), Refusal>
-    ensures { number_given result ≡ first (refusal_number refusal if has_instance store.now definition ∷ []) }
+pub fn instance_refusal<E: Copy>(store: &[u8], definition: u32, refusal: E) -> Result<(), E>
+    ensures { result ≡ refused_where (has_instance store.now definition) refusal }
 {
     if instance_exists(store, definition) {
         return Err(refusal);

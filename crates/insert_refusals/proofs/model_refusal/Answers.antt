@@ -5,6 +5,9 @@ use mathlib.Core.Path.{ap}
 use mathlib.Core.Bool.{not}
 use native.Mathlib.Omega.{arith}
 use Rattle.model_reach.proofs.FormFacts.{reads}
+use Rattle.instance_search.specs.Instances.{has_instance}
+use Rattle.rules.specs.declared.Refusal.TheVariants.{OffSpine}
+use Rattle.instance_search.proofs.InstanceLaws.{refused_number}
 use Rattle.insert_refusals.proofs.RefusalLaws.{model_9, model_10, model_11, model_12, model_on, model_13}
 use borrow.Author.Rules.{rules}
 use Rattle.insert_refusals.proofs.model_refusal.Goals as goal
@@ -55,4 +58,5 @@ returns c =
     let a = c.args in
     (model_13 _ (reads _ c.requires.0) a.o a.i c.requires.1 a.needed a.unfilled a.off c.kind_of.ensures
     c.definitions_of.ensures c.if-kind_of-ne2.false c.in_model.ensures c.if-in_model.false c.comes_round.ensures
-    c.if-comes_round.false c.if-needed-unfilled.false (ap not c.if-not-needed-off.false) c.instance_refusal.ensures).is
+    c.if-comes_round.false c.if-needed-unfilled.false (ap not c.if-not-needed-off.false)
+    (refused_number (has_instance a.store.now a.o) OffSpine c.instance_refusal.ensures)).is

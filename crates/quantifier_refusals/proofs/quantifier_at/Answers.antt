@@ -3,6 +3,8 @@
 use mathlib.Core.Path.{ap}
 use mathlib.Core.Bool.{not}
 use Rattle.instance_search.specs.Instances.{has_instance}
+use Rattle.rules.specs.declared.Refusal.TheVariants.{OffSpine}
+use Rattle.instance_search.proofs.InstanceLaws.{refused_number}
 use Rattle.quantifier_refusals.proofs.QuantifierLaws.{at_12, at_fine, at_exists}
 use borrow.Author.Rules.{rules}
 use Rattle.quantifier_refusals.proofs.quantifier_at.Goals as goal
@@ -22,4 +24,5 @@ pub returns : goal.returns
 returns c =
     let a = c.args in
     at_exists (has_instance a.store.now a.owner) a.spine a.old a.new a.text.now a.group c.gains.ensures c.if-gains-text.false
-    c.is_off.ensures (ap not c.if-not-is_off.false) c.instance_refusal.ensures
+    c.is_off.ensures (ap not c.if-not-is_off.false)
+    (refused_number (has_instance a.store.now a.owner) OffSpine c.instance_refusal.ensures)

@@ -20,8 +20,8 @@ use Rattle.declaration_scan.specs.Names.{NameOf, written_names}
 use Rattle.model_scan.specs.Scanning.{shallow, Measures}
 use Rattle.declaration_reading.specs.declared.Body.{Body}
 use Rattle.declaration_reading.specs.declared.Body.TheVariants.{Definitions, Particles, Attributes}
-use Rattle.declaration_reading.specs.Lines.{owners_after, said_definitions, said_particles, said_attributes, said_body, FormFits, Ready}
-use Rattle.declaration_reading.proofs.LineLaws.{Cut, said, listed, definitions_split, particles_split, attributes_split, definitions_cut, particles_cut, attributes_cut, lows_cut}
+use Rattle.declaration_reading.specs.Lines.{owners_after, said_definitions, said_particles, said_attributes, said_body, FormFits, Ready, Cut}
+use Rattle.declaration_reading.proofs.LineLaws.{said, listed, definitions_split, particles_split, attributes_split, definitions_cut, particles_cut, attributes_cut, lows_cut}
 use Rattle.declaration_reading.proofs.CountLaws.{defined}
 
 -- ---- one line

@@ -15,8 +15,8 @@ use Rattle.text_scan.proofs.ScanLaws.{leading_trailing}
 use Rattle.declaration_scan.specs.Declared.{is_definition, after_declared, model_of_content, definition_of_line, attribute_of_line, definitions_of_lines, particles_of_lines, attributes_of_lines, declarations}
 use Rattle.model_scan.specs.Scanning.{shallow, Measures}
 use Rattle.model_scan.proofs.ContentLaws.{content_few}
-use Rattle.declaration_reading.specs.Lines.{Counted}
-use Rattle.declaration_reading.proofs.LineLaws.{Cut, said, listed, definitions_cut, particles_cut, attributes_cut, lows_cut}
+use Rattle.declaration_reading.specs.Lines.{Counted, Cut}
+use Rattle.declaration_reading.proofs.LineLaws.{said, listed, definitions_cut, particles_cut, attributes_cut, lows_cut}
 
 -- ---- one line
 abbrev pub defined : Bool → FlatDefinition → List FlatDefinition

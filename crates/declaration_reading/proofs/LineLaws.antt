@@ -1,18 +1,17 @@
 -- The lines of a text and what each of them says.
-use Prim.Native.Nat.{ℕ, suc, ◌+◌, ◌-◌, ◌<◌, ◌≤◌}
+use Prim.Native.Nat.{ℕ, suc, ◌+◌, ◌-◌, ◌≤◌}
 use mathlib.Core.Path.{◌≡◌, refl, sym, ap, ap₂, ◌∙◌}
 use mathlib.Core.Bool.{Bool, true, false, ◌&&◌, false≢true}
 use mathlib.Core.List.{List, [], ◌∷◌, ◌++◌, append-nil}
 use native.Mathlib.Omega.{arith}
 use lib.Dec.{eqb, leb}
-use lib.ListN.{length, take, drop, length-append, length-drop, drop_of_length-le}
+use lib.ListN.{length, take, drop, length-append, length-drop}
 use lib.Seq.{drop-drop}
 use Rattle.rules.specs.Bytes.{Bytes, ascii, all}
 use Rattle.rules.specs.Preorder.{Deep}
 use Rattle.rules.specs.Layout.{FlatDefinition, FlatParticle, FlatAttribute}
 use Rattle.rules.proofs.Words.{and_split}
 use Rattle.rules.proofs.BooleanLaws.{all_append}
-use Rattle.codec.proofs.Writers.{tail_seen}
 use Rattle.text_scan.specs.Scan.{starts_with, front_while, after_while, no_line_feed, split_lines}
 use Rattle.text_scan.proofs.ScanLaws.{apart, leading_take, trailing_drop, leading_trailing, line_first}
 use Rattle.declaration_scan.specs.Declared.{is_declaration, is_definition, after_declared, model_of_content, definition_of_line, attribute_of_line, definitions_of_lines, particles_of_lines}
@@ -20,7 +19,7 @@ use Rattle.declaration_scan.specs.Declared.{attributes_of_lines, declarations_of
 use Rattle.model_scan.specs.Scanning.{shallow}
 use Rattle.model_scan.proofs.ModelLaws.{Alike}
 use Rattle.model_scan.proofs.ContentLaws.{content_alike}
-use Rattle.declaration_reading.specs.Lines.{first_line, rest_lines, Spans, owners_after}
+use Rattle.declaration_reading.specs.Lines.{first_line, rest_lines, Cut, owners_after}
 
 -- ---- lines
 -- a word whose bytes all pass stands at the front of a text if it stands at the front of what passes
@@ -47,19 +46,8 @@ module _ (txt : Bytes) (n : ℕ) (e : n ≡ length (front_while no_line_feed txt
   past : drop n txt ≡ after_while no_line_feed txt
   past = ap (λ (k : ℕ). drop k txt) e ∙ trailing_drop no_line_feed txt
 
-  pub span_more : n < length txt → Spans txt (n + 1)
-  span_more h = record { rest = sym (drop-drop 1 n txt) ∙ ap (drop 1) past; upto = omega arith }
-
-  pub span_last : length txt ≤ n → Spans txt n
-  span_last h =
-      let front : length (front_while no_line_feed txt) + length (after_while no_line_feed txt) ≡ length txt =
-      sym (length-append (front_while no_line_feed txt) (after_while no_line_feed txt)) ∙ ap length (leading_trailing no_line_feed txt) in
-      let none : after_while no_line_feed txt ≡ [] = sym past ∙ drop_of_length-le txt {i = n} h in
-      record { rest = past ∙ none ∙ ap (drop 1) (sym none); upto = omega arith }
-
--- what is left of a text when its front is cut off
-pub span_rest : {txt : Bytes} {n : ℕ} → Spans txt n → take (length txt - n) (drop n txt) ≡ rest_lines txt
-span_rest {txt} {n} s = tail_seen txt n ∙ s.rest
+  pub rest_is : {rest : Bytes} → rest ≡ drop (n + 1) txt → rest ≡ rest_lines txt
+  rest_is f = f ∙ sym (drop-drop 1 n txt) ∙ ap (drop 1) past
 
 declared_none : (txt : Bytes) → is_declaration (first_line txt) ≡ false → declarations txt ≡ []
 unfolding declarations_of split_lines
@@ -77,11 +65,6 @@ begun [] h = absurd (false≢true h)
 begun (x ∷ l) h = omega arith
 
 -- a text whose first line is a declaration, cut after it
-pub record Cut (txt line rest : Bytes) : Type 0 where
-  pub declared : declarations txt ≡ line ∷ declarations rest
-  pub some : 1 ≤ length line
-  pub shorter : length line + length rest ≤ length txt
-
 pub cut : (txt line rest : Bytes) {b : Bool} → b ≡ is_declaration (first_line txt) → b ≡ true → line ≡ first_line txt → rest ≡ rest_lines txt → Cut txt line rest
 cut txt line rest e h l r =
     record {

@@ -1,5 +1,5 @@
 -- The lines of a text from the front, and what the declarations among them say.
-use Rattle.std.specs.Prelude.{ℕ, suc, ◌+◌, ◌*◌, ◌<◌, ◌≤◌, ◌≡◌, Bool, true, false, List, [], ◌++◌, map, length, drop, Option, None, IsSomeAnd}
+use Rattle.std.specs.Prelude.{ℕ, suc, ◌+◌, ◌*◌, ◌<◌, ◌≤◌, ◌≡◌, Bool, true, false, List, [], ◌∷◌, ◌++◌, map, length, drop, Option, None, IsSomeAnd}
 use Rattle.rules.specs.Bytes.{Bytes}
 use Rattle.rules.specs.Layout.{le, definition_bytes, particle_bytes, attribute_bytes, each}
 use Rattle.rules.specs.Decode.{flat_name}
@@ -7,7 +7,7 @@ use Rattle.codec.specs.Laid.{Laid}
 use Rattle.layout.specs.Bodies.{Width}
 use Rattle.layout.specs.Header.{contents}
 use Rattle.text_scan.specs.Scan.{front_while, after_while, no_line_feed}
-use Rattle.declaration_scan.specs.Declared.{is_definition, definitions_of_lines, particles_of_lines, attributes_of_lines}
+use Rattle.declaration_scan.specs.Declared.{is_definition, definitions_of_lines, particles_of_lines, attributes_of_lines, declarations}
 use Rattle.declaration_scan.specs.Names.{written_names}
 use Rattle.model_scan.specs.Scanning.{shallow}
 use Rattle.declaration_reading.specs.declared.Body.{Body}
@@ -20,10 +20,11 @@ first_line txt = front_while no_line_feed txt
 abbrev pub rest_lines : Bytes → Bytes
 rest_lines txt = drop 1 (after_while no_line_feed txt)
 
--- the first line has r bytes, with its line feed
-pub record Spans (txt : Bytes) (r : ℕ) : Type 0 where
-  pub rest : drop r txt ≡ rest_lines txt
-  pub upto : r ≤ length txt
+-- a text whose first line is a declaration, cut after it
+pub record Cut (txt line rest : Bytes) : Type 0 where
+  pub declared : declarations txt ≡ line ∷ declarations rest
+  pub some : 1 ≤ length line
+  pub shorter : length line + length rest ≤ length txt
 
 -- what lines say of a form, counted: neither names nor a width matter for the numbers
 pub record Counted (ls : List Bytes) (definitions particles attributes : ℕ) (low : Bool) : Type 0 where

@@ -9,7 +9,7 @@ ghost use Rattle.layout.specs.Bodies.{Width};
 ghost use Rattle.declaration_scan.specs.Declared.{is_declaration, definitions_of_lines, particles_of_lines, declarations, declared_form};
 ghost use Rattle.declaration_scan.specs.Names.{written_names};
 ghost use Rattle.model_scan.specs.Scanning.{shallow};
-ghost use Rattle.declaration_reading.specs.Lines.{first_line, Spans, Counted, owners_after, said_definitions, said_particles, said_attributes};
+ghost use Rattle.declaration_reading.specs.Lines.{first_line, Counted, owners_after, said_definitions, said_particles, said_attributes};
 ghost use Rattle.declaration_reading.specs.Lines.{said_body, Ready, form_head, FormFits, form_bodies, FormRead};
 
 // Bytes of as many definitions as the ceiling allows.
@@ -32,12 +32,29 @@ fn line_here(text: &[u8]) -> &[u8]
     codec::first(text, n)
 }
 
-// The bytes of the first line, with its line feed.
-fn line_span(text: &[u8]) -> usize
-    ensures { Spans text.now result }
-{
-    let n = text_scan::length_before(text, b'\n');
-    if n < text.len() { n + 1 } else { n }
+// The declarations that a text begins with, line by line.
+#[derive(Drop)]
+struct Declarations<'a>(&'a [u8]);
+
+impl<'a> Iterator for Declarations<'a> {
+    type Item = &'a [u8];
+
+    ghost use Rattle.std.specs.Prelude.{MatchOption};
+    ghost use Rattle.std.specs.Iterator.{at_most};
+    ghost use Rattle.declaration_reading.specs.Lines.{Cut};
+
+    ghost next_gives = { λ s r t. MatchOption r (declarations s.0.now ≡ []) (λ line. Cut s.0.now line.now t.0.now) };
+
+    ghost remaining = { λ s. at_most (length s.0.now) };
+
+    fn next(&mut self) -> Option<&'a [u8]> {
+        if !is_declaration(self.0) {
+            return None;
+        }
+        let line = line_here(self.0);
+        self.0 = codec::after(self.0, line.len() + 1);
+        Some(line)
+    }
 }
 
 // ---- the form, measured
@@ -81,16 +98,12 @@ fn count_declarations(text: &[u8]) -> Counts
     let mut particles = 0;
     let mut attributes = 0;
     let mut shallow = true;
-    let mut t = text;
-    while is_declaration(t) {
-        let line = line_here(t);
-        let span = line_span(t);
+    for line in Declarations(text) {
         let counts = count_line(line);
         definitions += counts.definitions;
         particles += counts.particles;
         attributes += counts.attributes;
         shallow = shallow & counts.shallow;
-        t = &t[span..];
     }
     Counts {
         definitions,
@@ -179,13 +192,9 @@ fn put_body(body: Body, defs: &[u8], text: &[u8], out: &mut [u8], start: usize) 
 {
     let mut at = start;
     let mut owners = 0;
-    let mut t = text;
-    while is_declaration(t) {
-        let line = line_here(t);
-        let span = line_span(t);
+    for line in Declarations(text) {
         at = put_line(body, defs, owners, line, out, at);
         owners = owners_after(line, owners);
-        t = &t[span..];
     }
     at
 }

@@ -124,24 +124,14 @@ pub fn has_member(body: &[u8], count: usize, definition: u32) -> bool
     requires { count < 4294967296 }
     ensures { result ≡ any (is_member definition) (read_many read_particle particle_size count body.now) }
 {
-    for i in 0..count {
-        if is_member(layout::particle_at(body, i), definition) {
-            return true;
-        }
-    }
-    false
+    (0..count).any(|i| is_member(layout::particle_at(body, i), definition))
 }
 
 pub fn has_root(w: usize, body: &[u8], count: usize, definition: u32) -> bool
     requires { Width w × (count < 4294967296) }
     ensures { result ≡ any (is_root definition) (read_many read_row (row_size w) count body.now) }
 {
-    for i in 0..count {
-        if is_root(layout::row_at(w, body, i), definition) {
-            return true;
-        }
-    }
-    false
+    (0..count).any(|i| is_root(layout::row_at(w, body, i), definition))
 }
 
 // 1 if an attribute is of one of the first i definitions.

@@ -10,7 +10,6 @@ use Rattle.rules.specs.Bytes.{Bytes}
 use Rattle.rules.specs.Model.{Members, done, el, group, is_done}
 use Rattle.rules.specs.Layout.{particle_size, FlatParticle, how_many}
 use Rattle.rules.specs.Decode.{read_particle}
-use Rattle.codec.proofs.Writers.{tail_seen}
 use Rattle.model.specs.Members.{index_member, members_from}
 use Rattle.model.proofs.MembersLaws.{members_few, members_deeper, members_stop, members_here}
 use Rattle.model_places.specs.Placing.{one_if}
@@ -58,10 +57,10 @@ module _ (goal bound d : ℕ) (t : Bytes) (n : ℕ) (l : Counting goal bound d t
     one_most true = omega arith
     one_most false = omega arith
 
-    pub counting_on : d ≤ e → {m size : ℕ} → m ≡ one_if (eqb e d) → size ≡ particle_size → Counting goal bound d (take (length t - size) (drop size t)) (n + m)
-    counting_on k {m} {size} q z =
-        rw (tail_seen t size, z, q)
-        (record { gives = counted (eqb e d) refl k; sum = omega (arith, l.sum, length-drop particle_size t, one_most (eqb e d)) })
-
     pub counting_small : {m : ℕ} → m ≡ one_if (eqb e d) → particle_size * (n + m) ≤ bound
     counting_small q = omega (arith, q, l.sum, one_most (eqb e d))
+
+    pub counting_on : d ≤ e → {m : ℕ} → m ≡ one_if (eqb e d) → {s : Bytes} → s ≡ drop particle_size t → Counting goal bound d s (n + m)
+    counting_on k q r =
+        rw (r, q)
+        (record { gives = counted (eqb e d) refl k; sum = omega (arith, l.sum, length-drop particle_size t, one_most (eqb e d)) })

@@ -17,7 +17,6 @@ use Rattle.rules.specs.Preorder.{Deep}
 use Rattle.rules.specs.Layout.{header_size, definition_size, particle_size, FlatParticle, how_many, group_code}
 use Rattle.rules.specs.Decode.{read_particle, definition_count, particle_count}
 use Rattle.rules.specs.Passing.{passes}
-use Rattle.rules.specs.Refusal.{Condition, first}
 use Rattle.rules.specs.Place.{Context, Found as Spot, nth, find, rename_around, within, after_members, in_group, present}
 use Rattle.model.specs.declared.What.{What}
 use Rattle.model.specs.declared.What.TheVariants.{Element, Group}
@@ -33,7 +32,6 @@ use Rattle.model.proofs.ParticleLaws.{length_particles, particle_at_lem}
 use Rattle.model.proofs.PositionLaws.{spread_plug, length_leading, many_named}
 use Rattle.form_index.specs.Reading.{definition_in, particles_before, model_part}
 use Rattle.layout.specs.Bodies.{shape_of, particle_body, definitions_in, particles_in}
-use Rattle.change_laws.specs.FirstCondition.{Gives}
 use Rattle.store_laws.proofs.Encoded.{encoded}
 use Rattle.model_places.specs.declared.Picked.{Picked}
 use Rattle.model_places.specs.Placing.{index_of_name, model_in, part_in, leads, found_by, Placed, ElementAt, GroupAt, MemberAt, Picks, Picking}

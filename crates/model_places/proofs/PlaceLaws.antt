@@ -15,7 +15,7 @@ use Rattle.rules.specs.Model.{Members, done, rename}
 use Rattle.rules.specs.Preorder.{build}
 use Rattle.rules.specs.Layout.{particle_size}
 use Rattle.rules.specs.Decode.{definition_count}
-use Rattle.rules.specs.Place.{Context, here, past, over, into, Found as Spot, find, plug, kind_at, spine, rename_around}
+use Rattle.rules.specs.Place.{Context, here, past, over, into, Found as Spot, find, plug, kind_at, rename_around}
 use Rattle.rules.specs.Edit.{insert, remove, quantify, convert, flatten, place, place_of as placed}
 use Rattle.rules.specs.Passing.{passes}
 use Rattle.rules.specs.Refusal.{found_at}

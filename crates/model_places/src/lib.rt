@@ -8,6 +8,7 @@ ghost use Rattle.rules.specs.Passing.{passes};
 ghost use Rattle.model.specs.Members.{members_from};
 ghost use Rattle.model_places.specs.Placing.{part_in, Picking, one_if};
 
+use layout::PARTICLE_SIZE;
 use model::Particle;
 use model::place::Found;
 
@@ -49,16 +50,13 @@ fn one_if(b: bool) -> usize
 pub fn count_members(s: &[u8], d: usize) -> usize
     ensures { result ≡ how_many (members_from d s.now) }
 {
-    let size = layout::particle_size();
-    let mut t = s;
     let mut n = 0;
-    while t.len() >= size {
-        let depth = layout::particle_depth(t) as usize;
+    for particle in s.chunks_exact(PARTICLE_SIZE) {
+        let depth = layout::particle_depth(particle) as usize;
         if depth < d {
             return n;
         }
         n += one_if(depth == d);
-        t = &t[size..];
     }
     n
 }

@@ -28,11 +28,10 @@ fn ended(n: usize, p: usize) -> Reached
 fn reach(s: &[u8], d: usize, n: usize) -> Reached
     ensures { result ≡ reach d n (particles_of s.now) }
 {
-    let mut t = s;
     let mut p = 0;
     let mut m = n;
-    while t.len() >= PARTICLE_SIZE {
-        let depth = layout::particle_depth(t) as usize;
+    for particle in s.chunks_exact(PARTICLE_SIZE) {
+        let depth = layout::particle_depth(particle) as usize;
         if depth < d {
             return ended(m, p);
         }
@@ -43,7 +42,6 @@ fn reach(s: &[u8], d: usize, n: usize) -> Reached
             m -= 1;
         }
         p += 1;
-        t = &t[PARTICLE_SIZE..];
     }
     ended(m, p)
 }
@@ -52,15 +50,13 @@ fn reach(s: &[u8], d: usize, n: usize) -> Reached
 pub fn span(s: &[u8], d: usize) -> usize
     ensures { result ≡ span_of d (particles_of s.now) }
 {
-    let mut t = s;
     let mut n = 0;
-    while t.len() >= PARTICLE_SIZE {
-        let depth = layout::particle_depth(t) as usize;
+    for particle in s.chunks_exact(PARTICLE_SIZE) {
+        let depth = layout::particle_depth(particle) as usize;
         if depth <= d {
             return n;
         }
         n += 1;
-        t = &t[PARTICLE_SIZE..];
     }
     n
 }

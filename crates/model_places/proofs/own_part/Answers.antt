@@ -1,7 +1,6 @@
 -- `model_places::own_part` meets its contract: the two bodies that are read are the store's, so the part is `part_in`
 -- (`own_model` of PickLaws).
 use Rattle.model_places.proofs.PickLaws.{own_model}
-use borrow.Author.Rules.{rules}
 use Rattle.model_places.proofs.own_part.Goals as goal
 
 pub returns : goal.returns

@@ -4,7 +4,6 @@
 use Rattle.model_places.proofs.PickLaws.{picked_none, picked_inside, picked_there}
 use native.Mathlib.Omega.{arith}
 use Rattle.store_check.proofs.StoreFacts.{whole}
-use borrow.Author.Rules.{rules}
 use Rattle.model_places.proofs.pick.Goals as goal
 
 pub own_part-part-requires : goal.own_part-part-requires

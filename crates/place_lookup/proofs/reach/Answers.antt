@@ -1,45 +1,46 @@
--- `place_lookup::reach` meets its contract: a particle less deep than d, or none, ends the list (`left_stop`,
--- `left_few` of PlacesLaws). One of depth d is the member where m is 0 (`left_member`), else it is passed and counted
--- (`left_pass`). A deeper one is passed (`left_deeper`).
+-- `place_lookup::reach` meets its contract: a particle less deep than d, or none, ends the list (`reach_stop` of
+-- StepLaws, `left_few` of PlacesLaws). One of depth d is the member where m is 0 (`reach_member`), else it is passed and
+-- counted (`reach_pass`). A deeper one is passed (`reach_deeper`).
 use mathlib.Core.Path.{◌∙◌}
-use Prim.Native.Nat.{◌-◌}
 use native.Mathlib.Omega.{arith}
-use lib.ListN.{length, drop, length-take, length-drop}
-use Rattle.model.proofs.PlacesLaws.{left_all, left_few, left_stop, left_member, left_pass, left_deeper}
-use Rattle.rules.specs.Layout.{particle_size}
+use Rattle.model.proofs.ChunkLaws.{front}
+use Rattle.model.proofs.PlacesLaws.{left_all, left_few}
+use Rattle.place_lookup.proofs.StepLaws.{reach_stop, reach_member, reach_pass, reach_deeper}
 use Rattle.place_lookup.proofs.reach.Goals as goal
 use Rattle.place_lookup.proofs.reach.Goals.{then-depth-d-2+else-m-eq0, else-depth-d-2}
 
-pub loop-t-init : goal.loop-t-init
-loop-t-init c = left_all _ _ _
+pub loop-particle-init : goal.loop-particle-init
+loop-particle-init c =
+    let new = c.chunks_exact-particle-items.ensures in
+    rw c.into_iter-particle-iterator.ensures.into_iter_gives (new.size, rw new.rest (left_all _ _ _))
 
 pub returns-then-depth-d : goal.returns-then-depth-d
 returns-then-depth-d c =
-    let l = c.loop-t in
-    c.ended.ensures ∙ left_stop _ _ _ l.t.now _ c.particle_depth-depth.result (omega arith) c.particle_depth-depth.ensures _ (omega arith) l.invariant
+    let loop = c.loop-particle.invariant in
+    let step = c.in-Some.ensures.steps in
+    c.ended.ensures ∙ reach_stop (front _ _ _ step.1.0 (step.1.1 ∙ loop.0)) c.particle_depth-depth.ensures loop.1 (omega arith)
 
 pub returns-then-m-eq0 : goal.returns-then-m-eq0
 returns-then-m-eq0 c =
-    let l = c.loop-t in
-    left_member _ _ _ l.t.now _ c.particle_depth-depth.result (omega arith) c.particle_depth-depth.ensures _ c.if-depth-d-2.true c.if-m-eq0.true l.invariant
+    let loop = c.loop-particle.invariant in
+    let step = c.in-Some.ensures.steps in
+    reach_member (front _ _ _ step.1.0 (step.1.1 ∙ loop.0)) c.particle_depth-depth.ensures loop.1 c.if-depth-d-2.true c.if-m-eq0.true
 
 pub overflow_add-p : goal.overflow_add-p
-overflow_add-p c = omega arith
+overflow_add-p c = omega (arith, c.loop-particle.invariant.1.sum)
 
-pub loop-t-smaller : goal.loop-t-smaller
-loop-t-smaller c =
-    let t = c.loop-t.t.now in
-    omega (arith, length-take (length t - particle_size) (drop particle_size t), length-drop particle_size t)
-
-pub loop-t-preserved : goal.loop-t-preserved
-loop-t-preserved c =
-    let l = c.loop-t in
+pub loop-particle-preserved : goal.loop-particle-preserved
+loop-particle-preserved c =
+    let loop = c.loop-particle.invariant in
+    let step = c.in-Some.ensures.steps in
+    let first = front _ _ _ step.1.0 (step.1.1 ∙ loop.0) in
+    let depth = c.particle_depth-depth.ensures in
     elim c.if-depth-d-2.branch [
-      | then-depth-d-2+else-m-eq0 w ↦ rw w.m-is (left_pass _ _ _ l.t.now _ c.particle_depth-depth.result (omega arith) c.particle_depth-depth.ensures _ w.if-depth-d-2.true w.if-m-eq0.false l.invariant)
-      | else-depth-d-2 w ↦ rw w.m-is (left_deeper _ _ _ l.t.now _ c.particle_depth-depth.result (omega arith) c.particle_depth-depth.ensures _ (omega (arith, w.if-depth-d-2.false)) l.invariant)
+      | then-depth-d-2+else-m-eq0 w ↦ (step.0 ∙ loop.0, rw w.m-is (reach_pass first depth loop.1 w.if-depth-d-2.true w.if-m-eq0.false))
+      | else-depth-d-2 w ↦ (step.0 ∙ loop.0, rw w.m-is (reach_deeper first depth loop.1 (omega (arith, w.if-depth-d-2.false))))
     ]
 
 pub returns : goal.returns
 returns c =
-    let l = c.loop-t in
-    c.ended-2.ensures ∙ left_few _ _ _ l.t.now _ _ (omega arith) l.invariant
+    let loop = c.loop-particle.invariant in
+    c.ended-2.ensures ∙ left_few _ _ _ _ _ _ (omega (arith, loop.0, c.in-None.ensures.steps.1.0)) loop.1

@@ -135,7 +135,7 @@ pub fn has_root(w: usize, body: &[u8], count: usize, definition: u32) -> bool
 }
 
 // Whether an attribute is of one of the first i definitions.
-fn is_below(rec: &[u8], i: u32) -> bool
+fn is_owned_below(rec: &[u8], i: u32) -> bool
     ensures { result ≡ ltb (read_attribute rec.now).owner i }
 {
     (layout::owner_byte(rec) as u32) < i
@@ -147,7 +147,7 @@ fn attributes_below(w: usize, body: &[u8], count: usize, i: u32) -> usize
     ensures { CountWithin (attributes_up_to i (read_many read_attribute (attribute_size w) count body.now)) count result }
 {
     (0..count)
-        .filter(|&j| is_below(layout::attribute_at(w, body, j), i))
+        .filter(|&j| is_owned_below(layout::attribute_at(w, body, j), i))
         .count()
 }
 

@@ -8,7 +8,6 @@ use lib.ListN.{length}
 use Rattle.attribute_form.proofs.CountLaws.{number_of_attributes}
 use Rattle.attribute_form.proofs.FormParts.{zeros_long}
 use Rattle.add_attribute_call.proofs.Laws.{added_full, added_fits, added_long, added_asks, added_answers}
-use borrow.Author.Rules.{rules}
 use Rattle.add_attribute_call.proofs.write_added.Goals as goal
 
 pub returns-then-attributes_full : goal.returns-then-attributes_full

@@ -12,7 +12,6 @@ use Rattle.store_writer.proofs.CallLaws.{passed, bad, turned_away}
 use Rattle.model_edit.proofs.Fits.{asks}
 use Rattle.model_edit.proofs.Keeping.{kept_answers, keeping_sized}
 use Rattle.convert_call.proofs.Laws.{convert_fits, convert_form, convert_plan}
-use borrow.Author.Rules.{rules}
 use Rattle.rules.proofs.WellFormedLaws.{none_value}
 use Rattle.layout.specs.Bodies.{width_of}
 use Rattle.convert_call.proofs.convert_to_group.Goals as goal

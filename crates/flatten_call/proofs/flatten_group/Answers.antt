@@ -12,7 +12,6 @@ use Rattle.store_writer.proofs.CallLaws.{passed, bad, turned_away}
 use Rattle.model_edit.proofs.Fits.{asks}
 use Rattle.model_edit.proofs.Keeping.{kept_answers, keeping_sized}
 use Rattle.flatten_call.proofs.Laws.{flatten_fits, flatten_form, flatten_plan}
-use borrow.Author.Rules.{rules}
 use Rattle.rules.proofs.WellFormedLaws.{none_value}
 use Rattle.layout.specs.Bodies.{width_of}
 use Rattle.flatten_call.proofs.flatten_group.Goals as goal

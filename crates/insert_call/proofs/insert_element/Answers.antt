@@ -12,7 +12,6 @@ use Rattle.model_writer.specs.declared.Edit.TheVariants.{Insert}
 use Rattle.store_writer.proofs.CallLaws.{passed, bad, turned_away}
 use Rattle.model_edit.proofs.Fits.{asks, owner_fits, place_low}
 use Rattle.insert_call.proofs.Insertion.{insertion, edit_same, inserting_sized, inserted_answers}
-use borrow.Author.Rules.{rules}
 use Rattle.insert_call.proofs.insert_element.Goals as goal
 
 pub returns-then-not-passes : goal.returns-then-not-passes

@@ -6,7 +6,6 @@ use mathlib.Core.Bool.{not}
 use native.Mathlib.Omega.{arith}
 use Rattle.model_reach.proofs.FormFacts.{reads}
 use Rattle.insert_refusals.proofs.RefusalLaws.{model_9, model_10, model_11, model_12, model_on, model_13}
-use borrow.Author.Rules.{rules}
 use Rattle.insert_refusals.proofs.model_refusal.Goals as goal
 
 pub kind_of-requires : goal.kind_of-requires

@@ -4,7 +4,6 @@ use mathlib.Core.Path.{ap}
 use mathlib.Core.Bool.{not}
 use Rattle.instance_search.specs.Instances.{has_instance}
 use Rattle.quantifier_refusals.proofs.QuantifierLaws.{at_12, at_fine, at_exists}
-use borrow.Author.Rules.{rules}
 use Rattle.quantifier_refusals.proofs.quantifier_at.Goals as goal
 
 pub returns-then-gains-text : goal.returns-then-gains-text

@@ -10,7 +10,6 @@ use Rattle.model_writer.specs.declared.Edit.TheVariants.{Remove}
 use Rattle.store_writer.proofs.CallLaws.{passed, bad, turned_away}
 use Rattle.model_edit.proofs.Fits.{asks, owner_fits, place_low}
 use Rattle.remove_call.proofs.Removing.{remove_fits, removed_answers, removing_sized}
-use borrow.Author.Rules.{rules}
 use Rattle.rules.proofs.WellFormedLaws.{none_value}
 use Rattle.layout.specs.Bodies.{width_of}
 use Rattle.remove_call.proofs.remove_element.Goals as goal

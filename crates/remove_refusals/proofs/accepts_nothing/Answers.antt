@@ -1,7 +1,6 @@
 -- `remove_refusals::accepts_nothing` meets its contract: of the facts that `facts_from` gives, `nothing` is whether the
 -- CHOICE accepts nothing (`nothing_read` of RemoveLaws).
 use Rattle.remove_refusals.proofs.RemoveLaws.{nothing_read}
-use borrow.Author.Rules.{rules}
 use Rattle.remove_refusals.proofs.accepts_nothing.Goals as goal
 
 pub returns : goal.returns

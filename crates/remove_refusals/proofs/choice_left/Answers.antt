@@ -2,7 +2,6 @@
 -- before the element and of those after it, make up `choice_left` (`left_read` of RemoveLaws).
 use Rattle.remove_refusals.proofs.RemoveLaws.{left_read}
 use native.Mathlib.Omega.{arith}
-use borrow.Author.Rules.{rules}
 use Rattle.remove_refusals.proofs.choice_left.Goals as goal
 
 pub times-long-requires : goal.times-long-requires

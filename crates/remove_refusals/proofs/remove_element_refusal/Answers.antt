@@ -11,7 +11,6 @@ use Rattle.model_places.specs.declared.Picked.{Picked}
 use Rattle.store_check.proofs.StoreFacts.{whole, past_definitions}
 use Rattle.model_places.proofs.PickLaws.{as_element, as_none}
 use Rattle.remove_refusals.proofs.RemoveLaws.{removable, remove_6, remove_none, remove_other, remove_there}
-use borrow.Author.Rules.{rules}
 use Rattle.remove_refusals.proofs.remove_element_refusal.Goals as goal
 
 pub returns-then-owner-definition_count : goal.returns-then-owner-definition_count

@@ -16,10 +16,6 @@ returns-then-attributes_full c =
     c.attribute_count-a.ensures
     (leb-true 64 c.attribute_count-a.result (sym c.attributes_full.ensures ∙ c.if-attributes_full.true))
 
-pub adding_plan-plan-requires : goal.adding_plan-plan-requires
-adding_plan-plan-requires c =
-    c.requires.sort
-
 pub put_added-length-requires : goal.put_added-length-requires
 put_added-length-requires c =
     let few = leb-false 64 c.attribute_count-a.result (sym c.attributes_full.ensures ∙ c.if-attributes_full.false) in (

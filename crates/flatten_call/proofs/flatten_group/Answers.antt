@@ -22,10 +22,6 @@ returns-then-not-passes c =
     bad (flatten_group a.owner a.place.now) a.store.now (length a.out.now) a.out.now
     (ap not c.if-not-passes.true) c.passes.ensures
 
-pub flatten_group_refusal-requires : goal.flatten_group_refusal-requires
-flatten_group_refusal-requires c =
-    passed c.args.store.now (ap not c.if-not-passes.false) c.passes.ensures
-
 pub returns-in_err-group : goal.returns-in_err-group
 returns-in_err-group c =
     let a = c.args in

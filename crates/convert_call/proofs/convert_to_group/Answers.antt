@@ -22,10 +22,6 @@ returns-then-not-passes c =
     bad (convert_to_group a.owner a.place.now a.count a.sort) a.store.now (length a.out.now) a.out.now
     (ap not c.if-not-passes.true) c.passes.ensures
 
-pub convert_to_group_refusal-requires : goal.convert_to_group_refusal-requires
-convert_to_group_refusal-requires c =
-    passed c.args.store.now (ap not c.if-not-passes.false) c.passes.ensures
-
 pub returns-in_err-members : goal.returns-in_err-members
 returns-in_err-members c =
     let a = c.args in

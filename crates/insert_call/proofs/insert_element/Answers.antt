@@ -20,10 +20,6 @@ returns-then-not-passes c =
     bad (insert_element a.owner a.place.now a.definition a.quantifier a.text.now) a.store.now (length a.out.now) a.out.now
     (ap not c.if-not-passes.true) c.passes.ensures
 
-pub insert_element_refusal-requires : goal.insert_element_refusal-requires
-insert_element_refusal-requires c =
-    passed c.args.store.now (ap not c.if-not-passes.false) c.passes.ensures
-
 pub returns-in_err-gap : goal.returns-in_err-gap
 returns-in_err-gap c =
     let a = c.args in

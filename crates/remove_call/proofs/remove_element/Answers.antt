@@ -20,10 +20,6 @@ returns-then-not-passes c =
     bad (remove_element a.owner a.place.now) a.store.now (length a.out.now) a.out.now
     (ap not c.if-not-passes.true) c.passes.ensures
 
-pub remove_element_refusal-requires : goal.remove_element_refusal-requires
-remove_element_refusal-requires c =
-    passed c.args.store.now (ap not c.if-not-passes.false) c.passes.ensures
-
 pub returns-in_err-element : goal.returns-in_err-element
 returns-in_err-element c =
     let a = c.args in

@@ -4,7 +4,7 @@ use native.Mathlib.Omega.{arith}
 use mathlib.Core.Path.{◌≡◌, refl, sym, ◌∙◌, subst}
 use mathlib.Core.Bool.{Bool, true, false, not}
 use Rattle.rules.specs.Bytes.{Bytes}
-use Rattle.rules.specs.Passing.{good, passes}
+use Rattle.rules.specs.Passing.{passes}
 use Rattle.rules.specs.Change.{add_element}
 use Rattle.rules.specs.Refusal.{first, conditions, no_element}
 use Rattle.change_laws.proofs.Conditions.{not_past, none_holds}

@@ -2,7 +2,7 @@ pub mod Lowered
 pub mod Destroyed
 pub mod InUse
 pub mod Again
-pub mod Searching
+pub mod ByNumber
 pub mod Moving
 pub mod KeptRows
 pub mod Left

@@ -1,7 +1,7 @@
 //! A store without one of its definitions: the bodies that are left, with their indices renumbered.
 #![tactic(auto)]
 
-ghost use Rattle.std.specs.Prelude.{◌≡◌, true, ℕ, suc, ◌-◌, ◌≤◌, ◌<◌, length};
+ghost use Rattle.std.specs.Prelude.{◌≡◌, true, ℕ, suc, ◌-◌, ◌≤◌, ◌<◌, ltb, length};
 ghost use Rattle.rules.specs.Bytes.{any};
 ghost use Rattle.rules.specs.Layout.{particle_size, attribute_size, row_size, definition_bytes, particle_bytes, attribute_bytes, row_bytes, each, flat_bytes};
 ghost use Rattle.rules.specs.Decode.{read_particle, read_attribute, read_row, read_many, definition_count, particle_count, attribute_count};
@@ -10,7 +10,7 @@ ghost use Rattle.codec.specs.Laid.{Laid};
 ghost use Rattle.layout.specs.Bodies.{Width, width_of};
 ghost use Rattle.lookup.specs.Bodies.{bodies_of};
 ghost use Rattle.definition_writer.specs.Bodies.{member_moved};
-ghost use Rattle.definition_removal.specs.Bodies.{lowered, particle_record, attribute_record, each_record, is_member, is_root, one_below, particles_up_to};
+ghost use Rattle.definition_removal.specs.Bodies.{lowered, particle_record, attribute_record, each_record, is_member, is_root, particles_up_to};
 ghost use Rattle.definition_removal.specs.Bodies.{attributes_up_to, CountWithin, Between, Defined, destroyed, header_left};
 ghost use Rattle.definition_removal.specs.Shifting.{shifting};
 
@@ -134,12 +134,11 @@ pub fn has_root(w: usize, body: &[u8], count: usize, definition: u32) -> bool
     (0..count).any(|i| is_root(layout::row_at(w, body, i), definition))
 }
 
-// 1 if an attribute is of one of the first i definitions.
-fn one_below(rec: &[u8], i: u32) -> usize
-    ensures { CountWithin (one_below i (read_attribute rec.now)) 1 result }
+// Whether an attribute is of one of the first i definitions.
+fn is_owned_below(rec: &[u8], i: u32) -> bool
+    ensures { result ≡ ltb (read_attribute rec.now).owner i }
 {
-    let owner = layout::owner_byte(rec) as u32;
-    if owner < i { 1 } else { 0 }
+    (layout::owner_byte(rec) as u32) < i
 }
 
 // How many attributes the first i definitions have.
@@ -147,11 +146,9 @@ fn attributes_below(w: usize, body: &[u8], count: usize, i: u32) -> usize
     requires { Width w × (count < 4294967296) }
     ensures { CountWithin (attributes_up_to i (read_many read_attribute (attribute_size w) count body.now)) count result }
 {
-    let mut sum = 0;
-    for j in 0..count {
-        sum += one_below(layout::attribute_at(w, body, j), i);
-    }
-    sum
+    (0..count)
+        .filter(|&j| is_owned_below(layout::attribute_at(w, body, j), i))
+        .count()
 }
 
 // ---- the bodies of a store

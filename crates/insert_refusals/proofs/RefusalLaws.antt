@@ -10,21 +10,20 @@ use lib.ListN.{length}
 use borrow.Author.Tests.{not-true, not-false, lt-ltb, le-ltb}
 use Rattle.rules.specs.declared.GroupKind.{GroupKind}
 use Rattle.rules.specs.declared.GroupKind.TheVariants.{Sequence}
-use Rattle.rules.specs.Bytes.{Bytes, is_none, any}
+use Rattle.rules.specs.Bytes.{Bytes, is_none}
 use Rattle.rules.specs.Model.{skips}
 use Rattle.rules.specs.Place.{Found as Spot, kind_at, spine}
 use Rattle.rules.specs.Edit.{insert, same_kind, insert_off}
 use Rattle.rules.specs.Store.{Content, empty, pcdata, complex, Store}
-use Rattle.rules.specs.Layout.{row_size, kind_code}
-use Rattle.rules.specs.Decode.{quantifier_of, read_row, read_many, definition_count, row_count}
+use Rattle.rules.specs.Layout.{kind_code}
+use Rattle.rules.specs.Decode.{quantifier_of, definition_count}
 use Rattle.rules.specs.WellFormed.{is_value}
 use Rattle.rules.specs.Passing.{passes}
 use Rattle.rules.specs.Change.{insert_element, definition_at, name_at_index}
 use Rattle.rules.specs.Refusal.{Condition, ◌if◌, first, conditions, past_end, found_at, at_place, no_place, is_complex, instance_exists}
 use Rattle.rules.proofs.Words.{test_is}
 use Rattle.rules.proofs.BooleanLaws.{none_long}
-use Rattle.layout.specs.Bodies.{width_of, WidthIn, Number, definitions_in, tree_rows_in}
-use Rattle.model.specs.declared.place.Holder.{Holder}
+use Rattle.layout.specs.Bodies.{WidthIn, Number, definitions_in}
 use Rattle.model.specs.declared.place.Found.{Found}
 use Rattle.std.specs.Prelude.{Option as Maybe, Some, None}
 use Rattle.model.specs.Places.{place_in}

@@ -22,17 +22,17 @@ module _ {t x s : Bytes} (first : Front t x s) where
     depth_is = r ∙ ap (λ (p : Deep FlatParticle). p.depth) first.reads
 
     module _ {goal : Reached} {bound d p n : ℕ} (l : Left goal bound d t p n) where
-      pub reach_stop : depth < d → onward p (ended n) ≡ goal
-      reach_stop k = left_stop goal bound d t p depth first.long depth_is n k l
+      pub chunk_stop : depth < d → onward p (ended n) ≡ goal
+      chunk_stop k = left_stop goal bound d t p depth first.long depth_is n k l
 
-      pub reach_member : depth ≡ d → n ≡ 0 → Member p ≡ goal
-      reach_member k z = left_member goal bound d t p depth first.long depth_is n k z l
+      pub chunk_member : depth ≡ d → n ≡ 0 → Member p ≡ goal
+      chunk_member k z = left_member goal bound d t p depth first.long depth_is n k z l
 
-      pub reach_pass : depth ≡ d → (n ≡ 0 → ⊥) → Left goal bound d s (p + 1) (n - 1)
-      reach_pass k z = subst (λ (b : Bytes). Left goal bound d b (p + 1) (n - 1)) rest_is (left_pass goal bound d t p depth first.long depth_is n k z l)
+      pub chunk_pass : depth ≡ d → (n ≡ 0 → ⊥) → Left goal bound d s (p + 1) (n - 1)
+      chunk_pass k z = subst (λ (b : Bytes). Left goal bound d b (p + 1) (n - 1)) rest_is (left_pass goal bound d t p depth first.long depth_is n k z l)
 
-      pub reach_deeper : d < depth → Left goal bound d s (p + 1) n
-      reach_deeper k = subst (λ (b : Bytes). Left goal bound d b (p + 1) n) rest_is (left_deeper goal bound d t p depth first.long depth_is n k l)
+      pub chunk_deeper : d < depth → Left goal bound d s (p + 1) n
+      chunk_deeper k = subst (λ (b : Bytes). Left goal bound d b (p + 1) n) rest_is (left_deeper goal bound d t p depth first.long depth_is n k l)
 
     module _ {goal bound d n : ℕ} (l : Deeper goal bound d t n) where
       pub span_stop : depth ≤ d → n ≡ goal

@@ -11,11 +11,10 @@ use lib.ListN.{length}
 use Rattle.rules.specs.declared.Quantifier.{Quantifier}
 use Rattle.rules.specs.declared.GroupKind.{GroupKind}
 use Rattle.rules.specs.Bytes.{Bytes, is_none}
-use Rattle.rules.specs.Model.{skips}
-use Rattle.rules.specs.Quantifiers.{many, gains, cuts, relaxes}
+use Rattle.rules.specs.Quantifiers.{gains, cuts, relaxes}
 use Rattle.rules.specs.Decode.{quantifier_of, definition_count}
 use Rattle.rules.specs.WellFormed.{is_value}
-use Rattle.rules.specs.Place.{Context, Found as Spot, spine}
+use Rattle.rules.specs.Place.{Context, Found as Spot}
 use Rattle.rules.specs.Edit.{quantify, quantify_off, quantify_group_off}
 use Rattle.rules.specs.Change.{name_at_index}
 use Rattle.rules.specs.Refusal.{◌if◌, Condition, first, conditions, bad_text, found_at, no_element_at, no_group_at, at_place, on_element, on_group, instance_exists}

@@ -6,7 +6,7 @@ use mathlib.Core.Bool.{not}
 use lib.ListN.{length}
 use Rattle.rules.specs.Change.{add_attribute}
 use Rattle.lookup.specs.Bodies.{bodies_of}
-use Rattle.store_writer.proofs.CallLaws.{passed, bad_by, turned_away_by}
+use Rattle.store_writer.proofs.CallLaws.{bad_by, turned_away_by}
 use Rattle.add_attribute_call.specs.Added.{added}
 use Rattle.call_laws.proofs.Calls.{made}
 use Rattle.add_attribute_call.proofs.Laws.{addable, add_leaves}
@@ -17,10 +17,6 @@ pub returns-then-not-passes : goal.returns-then-not-passes
 returns-then-not-passes c =
     bad_by (add_attribute c.args.owner c.args.name.now c.args.sort c.args.value.now) c.args.store.now
     (length c.args.out.now) c.args.out.now (ap not c.if-not-passes.true) c.passes.ensures
-
-pub add_attribute_refusal-requires : goal.add_attribute_refusal-requires
-add_attribute_refusal-requires c =
-    passed c.args.store.now (ap not c.if-not-passes.false) c.passes.ensures
 
 pub returns-in_err-add_attribute_refusal : goal.returns-in_err-add_attribute_refusal
 returns-in_err-add_attribute_refusal c =

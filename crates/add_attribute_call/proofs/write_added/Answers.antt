@@ -8,7 +8,6 @@ use lib.ListN.{length}
 use Rattle.attribute_form.proofs.CountLaws.{number_of_attributes}
 use Rattle.attribute_form.proofs.FormParts.{zeros_long}
 use Rattle.add_attribute_call.proofs.Laws.{added_full, added_fits, added_long, added_asks, added_answers}
-use borrow.Author.Rules.{rules}
 use Rattle.add_attribute_call.proofs.write_added.Goals as goal
 
 pub returns-then-attributes_full : goal.returns-then-attributes_full
@@ -16,10 +15,6 @@ returns-then-attributes_full c =
     added_full c.args.store.now c.args.owner c.args.name.now c.args.sort c.args.value.now c.requires (length c.args.out.now)
     c.attribute_count-a.ensures
     (leb-true 64 c.attribute_count-a.result (sym c.attributes_full.ensures ∙ c.if-attributes_full.true))
-
-pub adding_plan-plan-requires : goal.adding_plan-plan-requires
-adding_plan-plan-requires c =
-    c.requires.sort
 
 pub put_added-length-requires : goal.put_added-length-requires
 put_added-length-requires c =

@@ -9,7 +9,7 @@ use Rattle.rules.specs.Change.{add_element}
 use Rattle.store_laws.specs.Stores.{store_in}
 use Rattle.plans.specs.CallPlans.{add_element_plan, child_serial}
 use Rattle.plans.proofs.CallsPlanned.{add_element_planned}
-use Rattle.store_writer.proofs.CallLaws.{passed, bad_by, turned_away_by}
+use Rattle.store_writer.proofs.CallLaws.{bad_by, turned_away_by}
 use Rattle.call_laws.proofs.Calls.{made_planned}
 use Rattle.add_element_call.proofs.Laws.{add_element_asks, add_element_there}
 use Rattle.add_element_call.proofs.add_element.Goals as goal
@@ -18,10 +18,6 @@ pub returns-then-not-passes : goal.returns-then-not-passes
 returns-then-not-passes c =
     bad_by (add_element c.args.parent c.args.child c.args.definition c.args.text.now) c.args.store.now
     (length c.args.out.now) c.args.out.now (ap not c.if-not-passes.true) c.passes.ensures
-
-pub add_element_refusal-requires : goal.add_element_refusal-requires
-add_element_refusal-requires c =
-    passed c.args.store.now (ap not c.if-not-passes.false) c.passes.ensures
 
 pub returns-in_err-add_element_refusal : goal.returns-in_err-add_element_refusal
 returns-in_err-add_element_refusal c =

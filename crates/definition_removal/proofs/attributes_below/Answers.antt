@@ -1,22 +1,18 @@
--- `definition_removal::attributes_below` meets its contract: the loop's invariant holds at first (`counting_start` of
--- Moving) and after each attribute (`counting_on`), and where none is left `sum` is the number asked for
--- (`counting_end`); by the invariant `sum` is at most j, so that it is in range.
-use Rattle.definition_removal.proofs.Moving.{counting_start, counting_on, counting_end}
+-- `definition_removal::attributes_below` meets its contract: `filter` keeps the numbers of the attributes asked for and
+-- `count` counts them (`YieldsList-from_filter`, `count_from_yields_List` of the library), and they are as many as the
+-- attributes (`count_below` of Moving).
 use native.Mathlib.Omega.{arith}
+use borrow.Author.Rules.{rules}
+use borrow.Author.Tests.{tests}
+use Rattle.std.proofs.lemmas.Iterator.{YieldsList-from_range}
+use Rattle.std.proofs.lemmas.Iterator.Consumers.{YieldsList-from_filter, count_from_yields_List}
+use Rattle.definition_removal.proofs.Moving.{below_at, count_below}
 use Rattle.definition_removal.proofs.attributes_below.Goals as goal
-
-pub loop-j-init : goal.loop-j-init
-loop-j-init c = counting_start c.args.w c.args.i c.args.body.now c.args.count
-
-pub overflow_add-sum : goal.overflow_add-sum
-overflow_add-sum c =
-    omega (arith, c.loop-j.invariant.small, c.one_below-sum.ensures.most)
-
-pub loop-j-preserved : goal.loop-j-preserved
-loop-j-preserved c =
-    counting_on c.args.w c.args.i c.args.body.now c.args.count c.loop-j.invariant (omega arith) _ _ c.attribute_at.ensures
-    c.one_below-sum.ensures
 
 pub returns : goal.returns
 returns c =
-    counting_end c.args.w c.args.i c.args.body.now c.args.count c.loop-j.invariant (omega arith)
+    let a = c.args in
+    count_below a.w a.i a.body.now a.count c.count.result
+    (count_from_yields_List _ _ c.count.ensures.ran
+    (YieldsList-from_filter _ (below_at a.w a.i a.body.now) (YieldsList-from_range 0 a.count a.count c.filter.ensures.source (omega arith)) c.filter.ensures.closure
+    (λ x b q k. search (rules, tests))))

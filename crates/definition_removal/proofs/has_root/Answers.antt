@@ -1,5 +1,5 @@
 -- `definition_removal::has_root` meets its contract: `any` gives whether a number's row passes (`any_from_yields_List`
--- of the library), and so whether a row does (`some_passes` of Searching).
+-- of the library), and so whether a row does (`some_passes` of ByNumber).
 use mathlib.Core.Path.{refl, ◌∙◌}
 use native.Mathlib.Omega.{arith}
 use borrow.Author.Rules.{rules}
@@ -9,7 +9,7 @@ use Rattle.std.proofs.lemmas.Iterator.Search.{any_from_yields_List}
 use Rattle.rules.specs.Layout.{row_size}
 use Rattle.rules.specs.Decode.{read_row}
 use Rattle.definition_removal.specs.Bodies.{is_root}
-use Rattle.definition_removal.proofs.Searching.{passes_at, some_passes}
+use Rattle.definition_removal.proofs.ByNumber.{passes_at, some_passes}
 use Rattle.definition_removal.proofs.has_root.Goals as goal
 
 pub returns : goal.returns

@@ -7,7 +7,7 @@ use mathlib.Core.List.{[]}
 use lib.ListN.{length}
 use Rattle.rules.specs.Change.{destroy_attribute}
 use Rattle.lookup.specs.Bodies.{bodies_of}
-use Rattle.store_writer.proofs.CallLaws.{passed, bad_by, turned_away_by}
+use Rattle.store_writer.proofs.CallLaws.{bad_by, turned_away_by}
 use Rattle.destroy_attribute_call.specs.Dropped.{dropped}
 use Rattle.call_laws.proofs.Calls.{made}
 use Rattle.destroy_attribute_call.proofs.Laws.{droppable, destroy_leaves}
@@ -18,10 +18,6 @@ pub returns-then-not-passes : goal.returns-then-not-passes
 returns-then-not-passes c =
     bad_by (destroy_attribute c.args.attribute) c.args.store.now (length c.args.out.now) c.args.out.now (ap not c.if-not-passes.true)
     c.passes.ensures
-
-pub destroy_attribute_refusal-requires : goal.destroy_attribute_refusal-requires
-destroy_attribute_refusal-requires c =
-    passed c.args.store.now (ap not c.if-not-passes.false) c.passes.ensures
 
 pub returns-in_err-destroy_attribute_refusal : goal.returns-in_err-destroy_attribute_refusal
 returns-in_err-destroy_attribute_refusal c =

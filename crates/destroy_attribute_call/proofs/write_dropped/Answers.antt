@@ -6,7 +6,6 @@ use lib.ListN.{length}
 use Rattle.attribute_form.proofs.CountLaws.{number_of_attributes}
 use Rattle.attribute_form.proofs.FormParts.{zeros_long}
 use Rattle.destroy_attribute_call.proofs.Laws.{dropped_fits, dropped_long, dropped_asks, dropped_answers}
-use borrow.Author.Rules.{rules}
 use Rattle.destroy_attribute_call.proofs.write_dropped.Goals as goal
 
 pub destroying_plan-plan-requires : goal.destroying_plan-plan-requires

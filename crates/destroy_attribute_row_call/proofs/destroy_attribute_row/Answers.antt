@@ -11,7 +11,7 @@ use Rattle.store_laws.specs.Stores.{store_in}
 use Rattle.plans.specs.CallPlans.{destroy_attribute_row_plan}
 use Rattle.plans.proofs.CallsPlanned.{destroy_attribute_row_planned}
 use Rattle.row_walk.specs.declared.Which.TheVariants.{Serial, Attributes}
-use Rattle.store_writer.proofs.CallLaws.{passed, bad_by, turned_away_by}
+use Rattle.store_writer.proofs.CallLaws.{bad_by, turned_away_by}
 use Rattle.call_laws.proofs.Calls.{made_planned, takes_asks}
 use Rattle.destroy_attribute_row_call.proofs.destroy_attribute_row.Goals as goal
 
@@ -19,10 +19,6 @@ pub returns-then-not-passes : goal.returns-then-not-passes
 returns-then-not-passes c =
     bad_by (destroy_attribute_row c.args.element c.args.attribute) c.args.store.now (length c.args.out.now) c.args.out.now
     (ap not c.if-not-passes.true) c.passes.ensures
-
-pub destroy_attribute_row_refusal-requires : goal.destroy_attribute_row_refusal-requires
-destroy_attribute_row_refusal-requires c =
-    passed c.args.store.now (ap not c.if-not-passes.false) c.passes.ensures
 
 pub returns-in_err-destroy_attribute_row_refusal : goal.returns-in_err-destroy_attribute_row_refusal
 returns-in_err-destroy_attribute_row_refusal c =

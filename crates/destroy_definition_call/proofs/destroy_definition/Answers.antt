@@ -9,7 +9,7 @@ use Rattle.call_laws.proofs.Limits.{answers_limit, answers_all}
 use Rattle.definition_removal.specs.Bodies.{destroyed}
 use Rattle.lookup.specs.Bodies.{bodies_of}
 use Rattle.rules.specs.Change.{destroy_definition}
-use mathlib.Core.Path.{refl, sym, ◌∙◌, ap}
+use mathlib.Core.Path.{refl, sym, ap}
 use lib.ListN.{length}
 use Rattle.store_limits.proofs.GivenLaws.{refusal_some}
 use Rattle.std.proofs.lemmas.Result.{err_from_is_err_and}

@@ -11,7 +11,7 @@ use Rattle.store_laws.specs.Stores.{store_in}
 use Rattle.plans.specs.CallPlans.{destroy_element_plan}
 use Rattle.plans.proofs.CallsPlanned.{destroy_element_planned}
 use Rattle.row_walk.specs.declared.Which.TheVariants.{Everything, Serial}
-use Rattle.store_writer.proofs.CallLaws.{passed, bad_by, turned_away_by}
+use Rattle.store_writer.proofs.CallLaws.{bad_by, turned_away_by}
 use Rattle.call_laws.proofs.Calls.{made_planned, takes_asks}
 use Rattle.destroy_element_call.proofs.destroy_element.Goals as goal
 
@@ -19,10 +19,6 @@ pub returns-then-not-passes : goal.returns-then-not-passes
 returns-then-not-passes c =
     bad_by (destroy_element c.args.element) c.args.store.now (length c.args.out.now) c.args.out.now (ap not c.if-not-passes.true)
     c.passes.ensures
-
-pub destroy_element_refusal-requires : goal.destroy_element_refusal-requires
-destroy_element_refusal-requires c =
-    passed c.args.store.now (ap not c.if-not-passes.false) c.passes.ensures
 
 pub returns-in_err-destroy_element_refusal : goal.returns-in_err-destroy_element_refusal
 returns-in_err-destroy_element_refusal c =

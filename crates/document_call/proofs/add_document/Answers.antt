@@ -9,7 +9,7 @@ use Rattle.rules.specs.Change.{add_document}
 use Rattle.store_laws.specs.Stores.{store_in}
 use Rattle.plans.specs.CallPlans.{add_document_plan}
 use Rattle.plans.proofs.CallsPlanned.{add_document_planned}
-use Rattle.store_writer.proofs.CallLaws.{passed, bad_by, turned_away_by}
+use Rattle.store_writer.proofs.CallLaws.{bad_by, turned_away_by}
 use Rattle.call_laws.proofs.Calls.{made_planned}
 use Rattle.document_call.proofs.Laws.{add_document_asks}
 use Rattle.document_call.proofs.add_document.Goals as goal
@@ -18,10 +18,6 @@ pub returns-then-not-passes : goal.returns-then-not-passes
 returns-then-not-passes c =
     bad_by (add_document c.args.definition c.args.text.now) c.args.store.now (length c.args.out.now) c.args.out.now
     (ap not c.if-not-passes.true) c.passes.ensures
-
-pub add_document_refusal-requires : goal.add_document_refusal-requires
-add_document_refusal-requires c =
-    passed c.args.store.now (ap not c.if-not-passes.false) c.passes.ensures
 
 pub returns-in_err-add_document_refusal : goal.returns-in_err-add_document_refusal
 returns-in_err-add_document_refusal c =

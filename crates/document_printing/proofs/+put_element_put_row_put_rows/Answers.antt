@@ -6,10 +6,9 @@
 -- the end of the rows ends the text (`walk_stops`, `walk_ends`), and one of this depth is written (`walk_here`, with
 -- `rows_tree` of RowTexts). Three times the number of rows left, plus 1 for `put_row` and 2 for `put_rows`, falls with
 -- each call.
-use borrow.Author.Rules.{rules}
 use mathlib.Core.Path.{◌≡◌, ap, ◌∙◌}
 use mathlib.Core.List.{List}
-use Prim.Native.Nat.{suc, ◌+◌, ◌*◌, ◌-◌}
+use Prim.Native.Nat.{suc, ◌+◌}
 use native.Mathlib.Omega.{arith}
 use Rattle.rules.specs.Preorder.{build}
 use Rattle.rules.specs.Decode.{read_row, row_sort_of}
@@ -17,13 +16,12 @@ use Rattle.rules.specs.Layout.{row_size}
 use Rattle.layout.specs.Bodies.{record_at}
 use Rattle.lookup.proofs.Laws.{from_none}
 use Rattle.printing_parts.specs.Parts.{names_of, attribute_names_of}
-use Rattle.document_printing.specs.Documents.{rows_text, stays}
+use Rattle.document_printing.specs.Documents.{stays}
 use Rattle.document_printing.proofs.RowTexts.{rows_tree, rows_bare}
 use Rattle.printing_parts.proofs.PartLaws.{row_step_lem}
-use Rattle.printing_parts.proofs.WalkLaws.{Walk, walk_start, walk_deeper, walk_here, walk_stops, walk_ends, walk_as}
+use Rattle.printing_parts.proofs.WalkLaws.{walk_start, walk_deeper, walk_here, walk_stops, walk_ends, walk_as}
 use Rattle.document_printing.proofs.RowLaws.{end_short, row_short, element_enclosed, attribute_stepped, row_element_stepped, text_stepped}
-use Prim.Native.Nat.{ℕ, ◌<◌}
-use Rattle.codec.proofs.Writers.{laid_long}
+use Prim.Native.Nat.{ℕ}
 use Rattle.lookup.specs.Bodies.{rows_from}
 use Rattle.document_printing.proofs.+put_element_put_row_put_rows.Goals as goal
 

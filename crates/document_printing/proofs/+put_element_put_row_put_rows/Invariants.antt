@@ -1,21 +1,8 @@
-use borrow.Author.Rules.{rules}
-use mathlib.Core.Path.{◌≡◌, ap, ◌∙◌}
-use mathlib.Core.List.{List}
-use Prim.Native.Nat.{suc, ◌+◌, ◌*◌, ◌-◌}
-use native.Mathlib.Omega.{arith}
+use Prim.Native.Nat.{◌+◌, ◌*◌, ◌-◌}
 use Rattle.rules.specs.Preorder.{build}
-use Rattle.rules.specs.Decode.{read_row, row_sort_of}
-use Rattle.rules.specs.Layout.{row_size}
-use Rattle.layout.specs.Bodies.{record_at}
-use Rattle.lookup.proofs.Laws.{from_none}
 use Rattle.printing_parts.specs.Parts.{names_of, attribute_names_of}
-use Rattle.document_printing.specs.Documents.{rows_text, stays}
-use Rattle.document_printing.proofs.RowTexts.{rows_tree, rows_bare}
-use Rattle.printing_parts.proofs.PartLaws.{row_step_lem}
-use Rattle.printing_parts.proofs.WalkLaws.{Walk, walk_start, walk_deeper, walk_here, walk_stops, walk_ends, walk_as}
-use Rattle.document_printing.proofs.RowLaws.{end_short, row_short, element_enclosed, attribute_stepped, row_element_stepped, text_stepped}
-use Prim.Native.Nat.{ℕ, ◌<◌}
-use Rattle.codec.proofs.Writers.{laid_long}
+use Rattle.document_printing.specs.Documents.{rows_text}
+use Rattle.printing_parts.proofs.WalkLaws.{Walk}
 use Rattle.lookup.specs.Bodies.{rows_from}
 use Rattle.document_printing.proofs.+put_element_put_row_put_rows.Given as goal
 

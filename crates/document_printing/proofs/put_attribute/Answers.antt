@@ -4,7 +4,6 @@
 use native.Mathlib.Omega.{arith}
 use Rattle.codec.proofs.Writers.{laid_none, laid_then}
 use Rattle.escaping.proofs.Laws.{escape_length}
-use borrow.Author.Rules.{rules}
 use Rattle.document_printing.proofs.put_attribute.Goals as goal
 
 pub put_escaped-valued-requires : goal.put_escaped-valued-requires

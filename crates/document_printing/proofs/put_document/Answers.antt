@@ -1,7 +1,6 @@
 -- `document_printing::put_document` meets its contract: what `put_element` writes under the name of row i, and the end
 -- of the line after it, are `document_text` of that row (`document_stepped` of RowLaws).
 use Rattle.document_printing.proofs.RowLaws.{document_stepped}
-use borrow.Author.Rules.{rules}
 use Rattle.document_printing.proofs.put_document.Goals as goal
 
 pub returns : goal.returns

@@ -1,23 +1,20 @@
 -- `document_printing::put_documents` meets its contract: a deeper row is passed (`walk_deeper` of WalkLaws in
 -- `printing_parts`), past the last row all documents are written (`walk_all`), and a row of depth 0 is a document,
 -- whose line is written (`walk_here`, with `documents_step` of RowLaws).
-use borrow.Author.Rules.{rules}
 use mathlib.Core.Path.{◌≡◌, sym, ap, ◌∙◌}
-use mathlib.Core.Bool.{Bool, true}
+use mathlib.Core.Bool.{true}
 use mathlib.Core.List.{List}
-use Prim.Native.Nat.{ℕ, ◌+◌, ◌-◌}
+use Prim.Native.Nat.{ℕ, ◌+◌}
 use native.Mathlib.Omega.{arith}
-use Rattle.rules.specs.Store.{Forest}
 use Rattle.rules.specs.Preorder.{build}
-use Rattle.rules.specs.Layout.{FlatRow, row_size}
+use Rattle.rules.specs.Layout.{row_size}
 use Rattle.rules.specs.Decode.{read_row}
 use Rattle.layout.specs.Bodies.{record_at}
 use Rattle.lookup.proofs.Laws.{from_none}
 use Rattle.printing_parts.specs.Parts.{names_of, attribute_names_of}
-use Rattle.document_printing.specs.Documents.{documents_text}
 use Rattle.document_printing.proofs.RowTexts.{documents_bare}
 use Rattle.printing_parts.proofs.PartLaws.{row_step_lem}
-use Rattle.printing_parts.proofs.WalkLaws.{Walk, walk_start, walk_deeper, walk_here, walk_all}
+use Rattle.printing_parts.proofs.WalkLaws.{walk_start, walk_deeper, walk_here, walk_all}
 use Rattle.document_printing.proofs.RowLaws.{documents_step}
 use Rattle.lookup.specs.Bodies.{rows_from}
 use Rattle.document_printing.proofs.put_documents.Goals as goal

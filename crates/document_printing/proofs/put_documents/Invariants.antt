@@ -1,21 +1,11 @@
-use borrow.Author.Rules.{rules}
-use mathlib.Core.Path.{◌≡◌, sym, ap, ◌∙◌}
 use mathlib.Core.Bool.{Bool, true}
-use mathlib.Core.List.{List}
-use Prim.Native.Nat.{ℕ, ◌+◌, ◌-◌}
-use native.Mathlib.Omega.{arith}
+use Prim.Native.Nat.{◌-◌}
 use Rattle.rules.specs.Store.{Forest}
 use Rattle.rules.specs.Preorder.{build}
-use Rattle.rules.specs.Layout.{FlatRow, row_size}
-use Rattle.rules.specs.Decode.{read_row}
-use Rattle.layout.specs.Bodies.{record_at}
-use Rattle.lookup.proofs.Laws.{from_none}
+use Rattle.rules.specs.Layout.{FlatRow}
 use Rattle.printing_parts.specs.Parts.{names_of, attribute_names_of}
 use Rattle.document_printing.specs.Documents.{documents_text}
-use Rattle.document_printing.proofs.RowTexts.{documents_bare}
-use Rattle.printing_parts.proofs.PartLaws.{row_step_lem}
-use Rattle.printing_parts.proofs.WalkLaws.{Walk, walk_start, walk_deeper, walk_here, walk_all}
-use Rattle.document_printing.proofs.RowLaws.{documents_step}
+use Rattle.printing_parts.proofs.WalkLaws.{Walk}
 use Rattle.lookup.specs.Bodies.{rows_from}
 use Rattle.document_printing.proofs.put_documents.Given as goal
 

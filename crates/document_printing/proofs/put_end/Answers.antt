@@ -3,7 +3,6 @@
 use mathlib.Core.Path.{ap}
 use Rattle.codec.proofs.Writers.{laid_as, laid_none}
 use Rattle.document_printing.specs.Documents.{end_text}
-use borrow.Author.Rules.{rules}
 use Rattle.document_printing.proofs.put_end.Goals as goal
 
 pub returns-then-opened : goal.returns-then-opened

@@ -7,7 +7,6 @@ use Rattle.rules.specs.Store.{RowSort}
 use Rattle.rules.specs.Decode.{row_sort_of, row_name}
 use Rattle.printing_parts.specs.Parts.{names_of, attribute_names_of}
 use Rattle.document_printing.proofs.RowLaws.{sort_text}
-use borrow.Author.Rules.{rules}
 use Rattle.document_printing.proofs.row_name_of.Goals as goal
 
 pub returns-then-sort-eq1 : goal.returns-then-sort-eq1

@@ -6,7 +6,6 @@ use Prim.Native.Nat.{ℕ, ◌≤◌}
 use native.Mathlib.Omega.{arith}
 use lib.ListN.{length}
 use Rattle.layout.proofs.LayoutLaws.{row_value_short}
-use borrow.Author.Rules.{rules}
 use Rattle.document_printing.proofs.short_value.Goals as goal
 
 pub returns : goal.returns

@@ -1,7 +1,6 @@
 -- `document_printing::stays_open` meets its contract: for sort 2 the return is the clause of `stays` for attributes,
 -- and for any other sort `stays` is false (`stays_not` of RowLaws).
 use Rattle.document_printing.proofs.RowLaws.{stays_not}
-use borrow.Author.Rules.{rules}
 use Rattle.document_printing.proofs.stays_open.Goals as goal
 
 pub returns-else-sort-eq2 : goal.returns-else-sort-eq2

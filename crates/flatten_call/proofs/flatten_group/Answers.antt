@@ -12,7 +12,6 @@ use Rattle.store_writer.proofs.CallLaws.{passed, bad_by, turned_away_by}
 use Rattle.model_edit.proofs.Fits.{asks}
 use Rattle.model_edit.proofs.Keeping.{kept_answers, keeping_sized}
 use Rattle.flatten_call.proofs.Laws.{flatten_fits, flatten_form, flatten_plan}
-use borrow.Author.Rules.{rules}
 use Rattle.rules.proofs.WellFormedLaws.{none_value}
 use Rattle.layout.specs.Bodies.{width_of}
 use Rattle.flatten_call.proofs.flatten_group.Goals as goal
@@ -22,10 +21,6 @@ returns-then-not-passes c =
     let a = c.args in
     bad_by (flatten_group a.owner a.place.now) a.store.now (length a.out.now) a.out.now
     (ap not c.if-not-passes.true) c.passes.ensures
-
-pub flatten_group_refusal-requires : goal.flatten_group_refusal-requires
-flatten_group_refusal-requires c =
-    passed c.args.store.now (ap not c.if-not-passes.false) c.passes.ensures
 
 pub returns-in_err-group : goal.returns-in_err-group
 returns-in_err-group c =

@@ -4,7 +4,6 @@ use lib.ListN.{drop}
 use Prim.Native.Nat.{◌*◌}
 use Rattle.rules.specs.Layout.{particle_size}
 use Rattle.group_refusals.proofs.ConvertLaws.{convert_few, convert_unlike, convert_fine}
-use borrow.Author.Rules.{rules}
 use Rattle.group_refusals.proofs.convert_at.Goals as goal
 
 pub returns-then-count-n : goal.returns-then-count-n

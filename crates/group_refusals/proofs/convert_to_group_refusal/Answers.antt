@@ -11,7 +11,6 @@ use Rattle.rules.specs.Given.{number_given}
 use Rattle.model.specs.declared.place.Found.{Found}
 use Rattle.store_check.proofs.StoreFacts.{whole, past_definitions, within_definitions}
 use Rattle.group_refusals.proofs.ConvertLaws.{convert_4, convert_6, convert_none, convert_placed, convert_inside, convert_there}
-use borrow.Author.Rules.{rules}
 use Rattle.group_refusals.proofs.convert_to_group_refusal.Goals as goal
 
 pub returns-then-not-sort : goal.returns-then-not-sort

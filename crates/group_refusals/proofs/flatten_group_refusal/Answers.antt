@@ -11,7 +11,6 @@ use Rattle.model_places.specs.declared.Picked.{Picked}
 use Rattle.store_check.proofs.StoreFacts.{whole, past_definitions, within_definitions}
 use Rattle.model_places.proofs.PickLaws.{as_group, as_none}
 use Rattle.group_refusals.proofs.GroupLaws.{flatten_6, flatten_none, flatten_other, flatten_group_lem}
-use borrow.Author.Rules.{rules}
 use Rattle.group_refusals.proofs.flatten_group_refusal.Goals as goal
 
 pub returns-then-owner-definition_count : goal.returns-then-owner-definition_count

@@ -12,7 +12,6 @@ use Rattle.model_writer.specs.declared.Edit.TheVariants.{Insert}
 use Rattle.store_writer.proofs.CallLaws.{passed, bad_by, turned_away_by}
 use Rattle.model_edit.proofs.Fits.{asks, owner_fits, place_low}
 use Rattle.insert_call.proofs.Insertion.{insertion, edit_same, inserting_sized, inserted_answers}
-use borrow.Author.Rules.{rules}
 use Rattle.insert_call.proofs.insert_element.Goals as goal
 
 pub returns-then-not-passes : goal.returns-then-not-passes
@@ -20,10 +19,6 @@ returns-then-not-passes c =
     let a = c.args in
     bad_by (insert_element a.owner a.place.now a.definition a.quantifier a.text.now) a.store.now (length a.out.now) a.out.now
     (ap not c.if-not-passes.true) c.passes.ensures
-
-pub insert_element_refusal-requires : goal.insert_element_refusal-requires
-insert_element_refusal-requires c =
-    passed c.args.store.now (ap not c.if-not-passes.false) c.passes.ensures
 
 pub returns-in_err-gap : goal.returns-in_err-gap
 returns-in_err-gap c =

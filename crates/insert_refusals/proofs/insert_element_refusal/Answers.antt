@@ -6,7 +6,6 @@ use mathlib.Core.Bool.{not}
 use native.Mathlib.Omega.{arith}
 use Rattle.model_reach.proofs.FormFacts.{reads}
 use Rattle.insert_refusals.proofs.RefusalLaws.{insert_3, insert_4, insert_6, insert_6_too, insert_on}
-use borrow.Author.Rules.{rules}
 use Rattle.insert_refusals.proofs.insert_element_refusal.Goals as goal
 
 pub returns-then-not-is_value : goal.returns-then-not-is_value

@@ -9,7 +9,6 @@ use Rattle.instance_search.specs.Instances.{has_instance}
 use Rattle.rules.specs.declared.Refusal.TheVariants.{OffSpine}
 use Rattle.instance_search.proofs.InstanceLaws.{refused_number}
 use Rattle.insert_refusals.proofs.RefusalLaws.{model_9, model_10, model_11, model_12, model_on, model_13}
-use borrow.Author.Rules.{rules}
 use Rattle.insert_refusals.proofs.model_refusal.Goals as goal
 
 pub kind_of-requires : goal.kind_of-requires

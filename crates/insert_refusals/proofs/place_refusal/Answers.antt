@@ -10,7 +10,6 @@ use Rattle.rules.specs.Given.{number_given}
 use Rattle.model.specs.declared.place.Found.{Found}
 use Rattle.model_reach.proofs.FormFacts.{reads}
 use Rattle.insert_refusals.proofs.RefusalLaws.{place_8, place_there, place_on}
-use borrow.Author.Rules.{rules}
 use Rattle.insert_refusals.proofs.place_refusal.Goals as goal
 
 pub own_part-part-requires : goal.own_part-part-requires

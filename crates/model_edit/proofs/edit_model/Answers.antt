@@ -4,13 +4,11 @@
 use Prim.Native.Nat.{ℕ}
 use mathlib.Core.Path.{sym, ◌∙◌}
 use lib.ListN.{length, length-replicate}
-use borrow.Author.Tests.{not-true, not-false}
 use Rattle.layout.specs.Bodies.{most_form}
 use Rattle.lookup.specs.Bodies.{bodies_of}
 use Rattle.store_laws.proofs.FormLaws.{forms_of}
 use Rattle.store_writer.proofs.FormAnswers.{form_answers, form_ceiling}
 use Rattle.model_form.proofs.FormWriting.{owner_low, own_low, as_many, form_short, form_of, stored}
-use borrow.Author.Rules.{rules}
 use Rattle.model_edit.proofs.edit_model.Goals as goal
 
 pub all_after-p-requires : goal.all_after-p-requires

@@ -4,7 +4,6 @@
 use mathlib.Core.Path.{ap}
 use mathlib.Core.Bool.{not}
 use native.Mathlib.Omega.{arith}
-use borrow.Author.Rules.{rules}
 use Rattle.print_call.proofs.Laws.{within_passed, prints_bad, prints_short, prints_all}
 use Rattle.print_call.proofs.print.Goals as goal
 

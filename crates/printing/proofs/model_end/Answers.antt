@@ -7,7 +7,6 @@ use Rattle.rules.specs.Layout.{particle_size}
 use Rattle.rules.specs.Decode.{read_particle, particle_count}
 use Rattle.printing_parts.specs.Parts.{from_particles, particles_from}
 use Rattle.printing.proofs.FormLaws.{from_take, from_take_all}
-use borrow.Author.Rules.{rules}
 use Rattle.printing.proofs.model_end.Goals as goal
 
 pub returns-then-end-count : goal.returns-then-end-count

@@ -3,7 +3,6 @@
 use Rattle.lookup.specs.Bodies.{RowsOf}
 use Rattle.codec.proofs.Writers.{laid_then, laid_as}
 use Rattle.printing.proofs.FormLaws.{text_parts}
-use borrow.Author.Rules.{rules}
 use Rattle.printing.proofs.print_store.Goals as goal
 
 pub returns : goal.returns

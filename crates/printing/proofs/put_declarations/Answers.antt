@@ -1,7 +1,6 @@
 -- `printing::put_declarations` meets its contract: the line of the definition, then those of its attributes, are its
 -- declarations, with the particles up to the end that `model_end` gives (`declarations_laid` of FormLaws).
 use Rattle.printing.proofs.FormLaws.{declarations_laid}
-use borrow.Author.Rules.{rules}
 use Rattle.printing.proofs.put_declarations.Goals as goal
 
 pub returns : goal.returns

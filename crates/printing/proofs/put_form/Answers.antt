@@ -1,13 +1,8 @@
 -- `printing::put_form` meets its contract: the invariant holds at first (`declaring_start` of FormLaws) and after each
 -- definition, by the contract of `put_declarations` (`declaring_on`); past the last all are written (`declaring_done`).
 -- Each of at most 64 adds at most 840000 bytes and 4294967296 particles, so that the places are in range.
-use borrow.Author.Rules.{rules}
-use Prim.Native.Nat.{◌-◌}
 use native.Mathlib.Omega.{arith}
-use Rattle.rules.specs.Decode.{definition_count, particle_count, attribute_count}
-use Rattle.printing_parts.specs.Parts.{names_of, definitions_from, particles_from, attributes_from}
-use Rattle.printing.specs.Texts.{form_text}
-use Rattle.printing.proofs.FormLaws.{Declaring, declaring_start, declaring_on, declaring_done}
+use Rattle.printing.proofs.FormLaws.{declaring_start, declaring_on, declaring_done}
 use Rattle.printing.proofs.put_form.Goals as goal
 
 pub loop-o-init : goal.loop-o-init

@@ -1,10 +1,7 @@
-use borrow.Author.Rules.{rules}
-use Prim.Native.Nat.{◌-◌}
-use native.Mathlib.Omega.{arith}
 use Rattle.rules.specs.Decode.{definition_count, particle_count, attribute_count}
 use Rattle.printing_parts.specs.Parts.{names_of, definitions_from, particles_from, attributes_from}
 use Rattle.printing.specs.Texts.{form_text}
-use Rattle.printing.proofs.FormLaws.{Declaring, declaring_start, declaring_on, declaring_done}
+use Rattle.printing.proofs.FormLaws.{Declaring}
 use Rattle.printing.proofs.put_form.Given as goal
 
 -- The loop's invariant: the declarations of the definitions from o on, whose particles start at `from`, written from

@@ -12,7 +12,6 @@ use Rattle.model_edit.proofs.Fits.{owner_fits}
 use Rattle.quantifier_calls.proofs.Fitting.{given as conditions-given}
 use Rattle.quantifier_calls.proofs.Answering.{edits_there}
 use Rattle.quantifier_calls.proofs.Requantified.{given_stands, given_sized, given_answers}
-use borrow.Author.Rules.{rules}
 use Rattle.quantifier_calls.proofs.requantify.Goals as goal
 
 pub returns-then-not-passes : goal.returns-then-not-passes

@@ -4,7 +4,6 @@ use mathlib.Core.Path.{ap}
 use mathlib.Core.Bool.{not}
 use native.Mathlib.Omega.{arith}
 use Rattle.quantifier_refusals.proofs.QuantifierLaws.{early_3, early_4, early_6, early_0}
-use borrow.Author.Rules.{rules}
 use Rattle.quantifier_refusals.proofs.early_refusal.Goals as goal
 
 pub returns-then-not-is_value : goal.returns-then-not-is_value

@@ -6,7 +6,6 @@ use Rattle.instance_search.specs.Instances.{has_instance}
 use Rattle.rules.specs.declared.Refusal.TheVariants.{OffSpine}
 use Rattle.instance_search.proofs.InstanceLaws.{refused_number}
 use Rattle.quantifier_refusals.proofs.QuantifierLaws.{at_12, at_fine, at_exists}
-use borrow.Author.Rules.{rules}
 use Rattle.quantifier_refusals.proofs.quantifier_at.Goals as goal
 
 pub returns-then-gains-text : goal.returns-then-gains-text

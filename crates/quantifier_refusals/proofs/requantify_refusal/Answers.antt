@@ -2,7 +2,6 @@
 -- or 6 (`requantify_early` of QuantifierLaws), 8 at no particle or one of the other sort (`requantify_none`,
 -- `requantify_other`), else what `quantifier_at` gives (`requantify_there`), and where that is none, with the place.
 use mathlib.Core.Path.{◌≡◌, refl, sym, ap, ◌∙◌}
-use native.Mathlib.Omega.{arith}
 use Rattle.std.specs.Prelude.{Option as Maybe, ok_or}
 use Rattle.std.proofs.lemmas.Result.{err_from_is_err_and}
 use Rattle.rules.specs.declared.Refusal.TheVariants.{NoPlace}
@@ -11,7 +10,6 @@ use Rattle.model_places.specs.declared.Picked.{Picked}
 use Rattle.store_check.proofs.StoreFacts.{whole}
 use Rattle.model_places.proofs.PickLaws.{as_none}
 use Rattle.quantifier_refusals.proofs.QuantifierLaws.{some_refusal, same_test, other_test, is_group, requantify_early, requantify_none, requantify_other, requantify_there, picked_placed}
-use borrow.Author.Rules.{rules}
 use Rattle.quantifier_refusals.proofs.requantify_refusal.Goals as goal
 use Rattle.quantifier_refusals.proofs.requantify_refusal.Goals.{in-Element, in-Group}
 

@@ -10,7 +10,6 @@ use Rattle.model_writer.specs.declared.Edit.TheVariants.{Remove}
 use Rattle.store_writer.proofs.CallLaws.{passed, bad_by, turned_away_by}
 use Rattle.model_edit.proofs.Fits.{asks, owner_fits, place_low}
 use Rattle.remove_call.proofs.Removing.{remove_fits, removed_answers, removing_sized}
-use borrow.Author.Rules.{rules}
 use Rattle.rules.proofs.WellFormedLaws.{none_value}
 use Rattle.layout.specs.Bodies.{width_of}
 use Rattle.remove_call.proofs.remove_element.Goals as goal
@@ -20,10 +19,6 @@ returns-then-not-passes c =
     let a = c.args in
     bad_by (remove_element a.owner a.place.now) a.store.now (length a.out.now) a.out.now
     (ap not c.if-not-passes.true) c.passes.ensures
-
-pub remove_element_refusal-requires : goal.remove_element_refusal-requires
-remove_element_refusal-requires c =
-    passed c.args.store.now (ap not c.if-not-passes.false) c.passes.ensures
 
 pub returns-in_err-element : goal.returns-in_err-element
 returns-in_err-element c =

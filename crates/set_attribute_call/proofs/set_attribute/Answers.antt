@@ -9,7 +9,7 @@ use Rattle.rules.specs.Change.{set_attribute}
 use Rattle.store_laws.specs.Stores.{store_in}
 use Rattle.plans.specs.CallPlans.{set_attribute_plan, attribute_serial}
 use Rattle.plans.proofs.CallsPlanned.{set_attribute_planned}
-use Rattle.store_writer.proofs.CallLaws.{passed, bad_by, turned_away_by}
+use Rattle.store_writer.proofs.CallLaws.{bad_by, turned_away_by}
 use Rattle.call_laws.proofs.Calls.{made_planned}
 use Rattle.set_attribute_call.proofs.Laws.{set_attribute_asks, set_attribute_there}
 use Rattle.set_attribute_call.proofs.set_attribute.Goals as goal
@@ -18,10 +18,6 @@ pub returns-then-not-passes : goal.returns-then-not-passes
 returns-then-not-passes c =
     bad_by (set_attribute c.args.element c.args.attribute c.args.value.now) c.args.store.now (length c.args.out.now)
     c.args.out.now (ap not c.if-not-passes.true) c.passes.ensures
-
-pub set_attribute_refusal-requires : goal.set_attribute_refusal-requires
-set_attribute_refusal-requires c =
-    passed c.args.store.now (ap not c.if-not-passes.false) c.passes.ensures
 
 pub returns-in_err-set_attribute_refusal : goal.returns-in_err-set_attribute_refusal
 returns-in_err-set_attribute_refusal c =

@@ -9,7 +9,7 @@ use Rattle.rules.specs.Change.{set_text}
 use Rattle.store_laws.specs.Stores.{store_in}
 use Rattle.plans.specs.CallPlans.{set_text_plan, text_serial}
 use Rattle.plans.proofs.CallsPlanned.{set_text_planned}
-use Rattle.store_writer.proofs.CallLaws.{passed, bad_by, turned_away_by}
+use Rattle.store_writer.proofs.CallLaws.{bad_by, turned_away_by}
 use Rattle.call_laws.proofs.Calls.{made_planned}
 use Rattle.text_call.proofs.Laws.{set_text_asks, set_text_there}
 use Rattle.text_call.proofs.set_text.Goals as goal
@@ -18,10 +18,6 @@ pub returns-then-not-passes : goal.returns-then-not-passes
 returns-then-not-passes c =
     bad_by (set_text c.args.element c.args.text.now) c.args.store.now (length c.args.out.now) c.args.out.now
     (ap not c.if-not-passes.true) c.passes.ensures
-
-pub set_text_refusal-requires : goal.set_text_refusal-requires
-set_text_refusal-requires c =
-    passed c.args.store.now (ap not c.if-not-passes.false) c.passes.ensures
 
 pub returns-in_err-set_text_refusal : goal.returns-in_err-set_text_refusal
 returns-in_err-set_text_refusal c =

@@ -5,9 +5,10 @@ use borrow.Author.Tests.{lt-leb, ltb-false, not-false}
 use mathlib.Core.Path.{◌≡◌, refl, sym, ap, ◌∙◌, subst}
 use mathlib.Core.Bool.{Bool, true, false, not}
 use lib.ListN.{length, take}
+use Rattle.rules.specs.declared.AttributeSort.{AttributeSort}
 use Rattle.rules.specs.Bytes.{Bytes}
-use Rattle.rules.specs.Layout.{FlatAttribute, FlatStore, flat}
-use Rattle.rules.specs.Decode.{definition_count, particle_count, attribute_count}
+use Rattle.rules.specs.Layout.{FlatAttribute, FlatStore, flat, sort_code}
+use Rattle.rules.specs.Decode.{definition_count, particle_count, attribute_count, sort_of}
 use Rattle.rules.specs.WellFormed.{given_name, is_value, within_ceilings}
 use Rattle.rules.specs.Passing.{passes}
 use Rattle.rules.specs.Change.{add_attribute, after}
@@ -30,6 +31,7 @@ use Rattle.store_writer.proofs.CallLaws.{answers_equal, passed}
 use Rattle.store_laws.proofs.FormBytesLaws.{form_short}
 use Rattle.store_laws.proofs.FormLaws.{FormOf, forms_of, within, good_bodies}
 use Rattle.store_writer.proofs.FormAnswers.{form_answers, form_ceiling}
+use Rattle.store_check.proofs.AttributeReads.{sort_back}
 use Rattle.store_check.proofs.StoreFacts.{Whole, whole, value_given}
 use Rattle.plans.specs.AttributeCalls.{attributes_to, add_attribute_plan, attribute_added}
 use Rattle.plans.proofs.FormsAfter.{good_attribute, added_ceiling, added_form}
@@ -56,6 +58,17 @@ module _ (bs : Bytes) {b : Bool} {m : ℕ} (h : not b ≡ false) (e : b ≡ pass
         value = value_given bs v value;
         few = value_width_lem (width_of bs) v (value_given bs v value);
       }
+
+-- the sort that is read from a code no greater than 2 has the code
+module _ {bs : Bytes} {o : ℕ} {n : Bytes} {k : ℕ} {v : Bytes} {s : AttributeSort} (e : s ≡ sort_of k) (x : Addable bs o n k v) where
+  code_kept : k ≡ sort_code s
+  code_kept = sym (ap sort_code e ∙ sort_back k x.sort)
+
+  pub addable_as : Addable bs o n (sort_code s) v
+  addable_as = subst (λ (c : ℕ). Addable bs o n c v) code_kept x
+
+  pub added_as : added o n k v (bodies_of bs) ≡ added o n (sort_code s) v (bodies_of bs)
+  added_as = ap (λ (c : ℕ). added o n c v (bodies_of bs)) code_kept
 
 module _ (bs : Bytes) (q : passes bs ≡ true) where
   pub add_leaves : (o : ℕ) (n : Bytes) (k : ℕ) (v : Bytes) → first (conditions (add_attribute o n k v) (store_in bs)) ≡ 0

@@ -3,6 +3,7 @@
 #![tactic(auto)]
 
 ghost use Rattle.std.specs.Prelude.{length};
+ghost use Rattle.rules.specs.Layout.{sort_code};
 ghost use Rattle.rules.specs.Change.{add_attribute};
 ghost use Rattle.rules.specs.Outcome.{outcome};
 ghost use Rattle.rules.specs.Given.{AnswersBy};
@@ -11,19 +12,19 @@ ghost use Rattle.store_writer.specs.Writing.{limited};
 ghost use Rattle.attribute_writer.specs.Attributes.{Addable};
 ghost use Rattle.add_attribute_call.specs.Added.{added};
 
-use rules::Refusal;
+use rules::{AttributeSort, Refusal};
 
 // The store with a new attribute, the last of its owner.
 fn write_added(
     store: &[u8],
     owner: u32,
     name: &[u8],
-    sort: u32,
+    sort: AttributeSort,
     value: &[u8],
     out: &mut [u8],
 ) -> Result<usize, Refusal>
-    requires { Addable store.now owner name.now sort value.now }
-    ensures { AnswersBy (limited (length out.old) (added owner name.now sort value.now (bodies_of store.now)))
+    requires { Addable store.now owner name.now (sort_code sort) value.now }
+    ensures { AnswersBy (limited (length out.old) (added owner name.now (sort_code sort) value.now (bodies_of store.now)))
         out.old result out.new }
 {
     let d = layout::definition_count(store);
@@ -55,5 +56,12 @@ pub fn add_attribute(
         return Err(Refusal::BadStore);
     }
     attribute_refusals::add_attribute_refusal(store, owner, name, sort, value)?;
-    write_added(store, owner, name, sort, value, out)
+    write_added(
+        store,
+        owner,
+        name,
+        AttributeSort::from(sort as u8),
+        value,
+        out,
+    )
 }

@@ -9,21 +9,23 @@ use mathlib.Core.Option.{Option, none, some}
 use mathlib.Core.List.{List, [], ◌∷◌, map}
 use lib.Dec.{eqb, ltb}
 use lib.ListN.{length, length-append}
+use Rattle.rules.specs.declared.AttributeSort.{AttributeSort}
 use Rattle.rules.specs.Bytes.{Bytes, same, bytes, any}
 use Rattle.rules.specs.Model.{member}
 use Rattle.rules.specs.Store.{Attribute, Form}
-use Rattle.rules.specs.Layout.{attribute_size, FlatStore, own_attributes, all_attributes}
-use Rattle.rules.specs.Decode.{read_attribute, read_many, attribute_count}
+use Rattle.rules.specs.Layout.{attribute_size, FlatStore, own_attributes, all_attributes, sort_code}
+use Rattle.rules.specs.Decode.{read_attribute, read_many, attribute_count, sort_of}
 use Rattle.rules.specs.WellFormed.{attribute_name, is_there, given_name}
 use Rattle.rules.specs.Change.{add_attribute, destroy_attribute, Owned, entry_at, attribute_at, definition_at}
 use Rattle.rules.specs.Refusal.{conditions, bad_text, is_other, wrong_default}
 use Rattle.lookup.specs.Bodies.{bodies_of}
 use Rattle.layout.specs.Bodies.{WidthIn, Number, attributes_in}
 use Rattle.layout.proofs.LayoutLaws.{attributes_read}
-use Rattle.rules.proofs.BooleanLaws.{any_append, none_long}
+use Rattle.rules.proofs.BooleanLaws.{any_append}
 use Rattle.rules.proofs.DecodeLaws.{length_own}
 use Rattle.rules.proofs.Words.{below_or}
 use Rattle.store_laws.specs.Stores.{store_in}
+use Rattle.store_check.proofs.AttributeReads.{sort_back}
 use Rattle.store_check.proofs.StoreFacts.{form_in, Whole}
 use Rattle.change_laws.specs.FirstCondition.{Gives}
 use Rattle.change_laws.proofs.FirstCondition.{gives_hit, gives_next, gives_none}
@@ -165,16 +167,9 @@ module _ (bs : Bytes) (w : Whole bs) where
               add_0 h = gives_next h₂ (gives_next h₃ (gives_next (le-ltb 2 k h₄) (gives_next (sym (own_named_lem o n) ∙ h₅) (gives_next h₆ (gives_next h gives_none)))))
 
 -- ---- a default
-pub default_0 : {k : ℕ} (v : Bytes) → k ≡ 0 → not (eqb (length v) 0) ≡ wrong_default k v
-default_0 {k} v e = ap not (none_long v) ∙ ap (λ (z : ℕ). wrong_default z v) (sym e)
-
-pub default_1 : {k : ℕ} (v : Bytes) → k ≡ 1 → eqb (length v) 0 ≡ wrong_default k v
-default_1 {k} v e = none_long v ∙ ap (λ (z : ℕ). wrong_default z v) (sym e)
-
-pub default_2 : (k : ℕ) (v : Bytes) → (k ≡ 0 → ⊥) → (k ≡ 1 → ⊥) → false ≡ wrong_default k v
-default_2 zero v e f = absurd (e refl)
-default_2 (suc zero) v e f = absurd (f refl)
-default_2 (suc (suc k)) v e f = refl
+-- of the sort that a code no greater than 2 is read as
+pub default_as : (k : ℕ) (v : Bytes) {s : AttributeSort} {r : Bool} → s ≡ sort_of k → k ≤ 2 → r ≡ wrong_default (sort_code s) v → r ≡ wrong_default k v
+default_as k v e l q = q ∙ ap (λ (z : ℕ). wrong_default z v) (ap sort_code e ∙ sort_back k l)
 
 -- ---- a record
 pub own_at : (o : ℕ) (n : Bytes) {rec at : Bytes} {r : Bool} → r ≡ own_named o n (read_attribute rec) → rec ≡ at → r ≡ own_named o n (read_attribute at)

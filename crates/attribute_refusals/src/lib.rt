@@ -4,6 +4,7 @@
 ghost use Rattle.std.specs.Prelude.{◌≡◌, true};
 ghost use Rattle.rules.specs.Given.{number_given};
 ghost use Rattle.rules.specs.Bytes.{any};
+ghost use Rattle.rules.specs.Layout.{sort_code};
 ghost use Rattle.rules.specs.Decode.{read_attribute};
 ghost use Rattle.rules.specs.Passing.{passes};
 ghost use Rattle.rules.specs.Change.{add_attribute, destroy_attribute};
@@ -12,7 +13,7 @@ ghost use Rattle.lookup.specs.Bodies.{bodies_of};
 ghost use Rattle.store_laws.specs.Stores.{store_in};
 ghost use Rattle.attribute_refusals.specs.OwnAttributes.{own_named};
 
-use rules::Refusal;
+use rules::{AttributeSort, Refusal};
 
 // Whether a record is that of an owner's attribute with a name.
 fn is_own(rec: &[u8], owner: u32, name: &[u8]) -> bool
@@ -38,13 +39,13 @@ fn has_attribute(store: &[u8], owner: u32, name: &[u8]) -> bool
 }
 
 // Whether a value does not go with the sort of a new attribute.
-fn is_wrong_default(sort: u32, value: &[u8]) -> bool
-    ensures { result ≡ wrong_default sort value.now }
+fn is_wrong_default(sort: AttributeSort, value: &[u8]) -> bool
+    ensures { result ≡ wrong_default (sort_code sort) value.now }
 {
     match sort {
-        0 => value.len() != 0,
-        1 => value.len() == 0,
-        _ => false,
+        AttributeSort::Implied => value.len() != 0,
+        AttributeSort::Required => value.len() == 0,
+        AttributeSort::Fixed => false,
     }
 }
 
@@ -75,7 +76,7 @@ pub fn add_attribute_refusal(
     if owner as usize >= layout::definition_count(store) {
         return Err(Refusal::Unknown);
     }
-    if is_wrong_default(sort, value) {
+    if is_wrong_default(AttributeSort::from(sort as u8), value) {
         return Err(Refusal::Default);
     }
     Ok(())

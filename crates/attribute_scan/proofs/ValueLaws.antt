@@ -35,42 +35,18 @@ value_by a b v = elim a [ true ↦ [] | false ↦ elim b [ true ↦ ascii "-" | 
 abbrev Declares : ℕ → ℕ → Bytes → Bytes → Bytes → ℕ → ℕ → Bytes → Type 0
 Declares w owner name txt out at r out' = Laid (attribute_bytes w (attribute_of owner name (declared_sort txt) (take w (declared_value txt)))) out at r out'
 
-module _ (w owner : ℕ) (name txt : Bytes) (sort : ℕ) (e : sort ≡ declared_sort txt) where
-  declares_as : {out out' : Bytes} {at r : ℕ} (k : ℕ) (v : Bytes) → declared_sort txt ≡ k → take w (declared_value txt) ≡ v
-      → Laid (attribute_bytes w (attribute_of owner name k v)) out at r out' → Declares w owner name txt out at r out'
-  declares_as k v p q l = laid_as (ap₂ (λ (s : ℕ) (u : Bytes). attribute_bytes w (attribute_of owner name s u)) p q) l
-
-  pub declares_implied : {out out' : Bytes} {at r : ℕ} → sort ≡ 0 → (v : Bytes) → v ≡ take 0 txt
-      → Laid (attribute_bytes w (attribute_of owner name 0 v)) out at r out' → Declares w owner name txt out at r out'
-  unfolding quoted_value
-  declares_implied h v g l =
-      declares_as 0 v (sym e ∙ h) (ap (take w) (by (starts_with (ascii "#I") txt) (starts_with (ascii "#R") txt) (sym e ∙ h)) ∙ take-nil w ∙ sym g) l
-    where
-      by : (a b : Bool) → sort_by a b ≡ 0 → value_by a b (quoted_value txt) ≡ []
-      by true b h = refl
-      by false true h = let z : ◌≡◌ {A = ℕ} 1 0 = h in absurd (omega arith)
-      by false false h = let z : ◌≡◌ {A = ℕ} 2 0 = h in absurd (omega arith)
-
-  pub declares_required : {out out' : Bytes} {at r : ℕ} → sort ≡ 1 → (v : Bytes) → v ≡ take w (ascii "-")
-      → Laid (attribute_bytes w (attribute_of owner name 1 v)) out at r out' → Declares w owner name txt out at r out'
-  unfolding quoted_value
-  declares_required h v g l =
-      declares_as 1 v (sym e ∙ h) (ap (take w) (by (starts_with (ascii "#I") txt) (starts_with (ascii "#R") txt) (sym e ∙ h)) ∙ sym g) l
-    where
-      by : (a b : Bool) → sort_by a b ≡ 1 → value_by a b (quoted_value txt) ≡ ascii "-"
-      by true b h = let z : ◌≡◌ {A = ℕ} 0 1 = h in absurd (omega arith)
-      by false true h = refl
-      by false false h = let z : ◌≡◌ {A = ℕ} 2 1 = h in absurd (omega arith)
-
-  pub declares_fixed : {out out' : Bytes} {at r : ℕ} → (sort ≡ 0 → ⊥) → (sort ≡ 1 → ⊥)
-      → Laid (attribute_bytes w (attribute_of owner name 2 (take w (quoted_value txt)))) out at r out' → Declares w owner name txt out at r out'
-  unfolding quoted_value
-  declares_fixed {out} {out'} {at} {r} m n l = by (starts_with (ascii "#I") txt) refl (starts_with (ascii "#R") txt) refl
-    where
-      by : (a : Bool) → starts_with (ascii "#I") txt ≡ a → (b : Bool) → starts_with (ascii "#R") txt ≡ b → Declares w owner name txt out at r out'
-      by true p b q = absurd (m (e ∙ (λ i. sort_by (p i) (starts_with (ascii "#R") txt))))
-      by false p true q = absurd (n (e ∙ (λ i. sort_by (p i) (q i))))
-      by false p false q = declares_as 2 (take w (quoted_value txt)) (λ i. sort_by (p i) (q i)) (λ i. take w (value_by (p i) (q i) (value_of_raw (front_while no_quote (drop 8 txt))))) l
+pub declares_fixed : (w owner : ℕ) (name txt : Bytes) {out out' : Bytes} {at r : ℕ} → 2 ≡ declared_sort txt
+    → Laid (attribute_bytes w (attribute_of owner name 2 (take w (quoted_value txt)))) out at r out' → Declares w owner name txt out at r out'
+unfolding quoted_value
+declares_fixed w owner name txt e l =
+    laid_as
+    (ap₂ (λ (s : ℕ) (v : Bytes). attribute_bytes w (attribute_of owner name s (take w v))) (sym e) (by (starts_with (ascii "#I") txt) (starts_with (ascii "#R") txt) (sym e)))
+    l
+  where
+    by : (a b : Bool) → sort_by a b ≡ 2 → value_by a b (quoted_value txt) ≡ quoted_value txt
+    by true b h = let z : ◌≡◌ {A = ℕ} 0 2 = h in absurd (omega arith)
+    by false true h = let z : ◌≡◌ {A = ℕ} 1 2 = h in absurd (omega arith)
+    by false false h = refl
 
 -- ---- the value
 -- the front of what was stored
@@ -123,9 +99,9 @@ unfolding quoted_value
 value_quoted txt quoted raw part n q e r w p =
     p ∙ ap (λ (l : Bytes). take w (value_of_raw l)) (r ∙ ap (λ (k : ℕ). take k quoted) e ∙ leading_take no_quote quoted ∙ ap (front_while no_quote) q)
 
-pub value_laid : (w owner : ℕ) (name part v : Bytes) {out out' : Bytes} {at r : ℕ} → part ≡ v → Laid (attribute_bytes w (attribute_of owner name 2 part)) out at r out'
-    → Laid (attribute_bytes w (attribute_of owner name 2 v)) out at r out'
-value_laid w owner name part v e l = laid_as (ap (λ (u : Bytes). attribute_bytes w (attribute_of owner name 2 u)) (sym e)) l
+pub value_laid : (w owner : ℕ) (name part v : Bytes) (code : ℕ) {out out' : Bytes} {at r : ℕ} → part ≡ v → code ≡ 2
+    → Laid (attribute_bytes w (attribute_of owner name code part)) out at r out' → Laid (attribute_bytes w (attribute_of owner name 2 v)) out at r out'
+value_laid w owner name part v code e f l = laid_as (ap₂ (λ (k : ℕ) (u : Bytes). attribute_bytes w (attribute_of owner name k u)) (sym f) (sym e)) l
 
 pub value_short : (part v : Bytes) (w : ℕ) → part ≡ take w v → length part ≤ w
 value_short part v w e = omega (arith, ap length e, length-take w v)

@@ -2,24 +2,26 @@
 #![tactic(auto)]
 
 ghost use Rattle.std.specs.Prelude.{◌≡◌, ◌<◌, ◌≤◌, length, take};
-ghost use Rattle.rules.specs.Layout.{name_width, attribute_bytes};
+ghost use Rattle.rules.specs.Layout.{name_width, attribute_bytes, sort_code};
 ghost use Rattle.codec.specs.Laid.{Laid};
 ghost use Rattle.layout.specs.Bodies.{Width};
 ghost use Rattle.layout.specs.RecordBytes.{attribute_of};
 ghost use Rattle.declaration_scan.specs.Declared.{declared_sort, declared_value, attribute_of_line};
 ghost use Rattle.attribute_scan.specs.Values.{quoted_value};
 
-// The code of the sort that stands after the type.
-fn declared_sort(text: &[u8]) -> u8
-    ensures { result ≡ declared_sort text.now }
+use rules::AttributeSort;
+
+// The sort that stands after the type.
+fn declared_sort(text: &[u8]) -> AttributeSort
+    ensures { sort_code result ≡ declared_sort text.now }
 {
     if text_scan::starts_with(text, b"#I") {
-        return 0;
+        return AttributeSort::Implied;
     }
     if text_scan::starts_with(text, b"#R") {
-        return 1;
+        return AttributeSort::Required;
     }
-    2
+    AttributeSort::Fixed
 }
 
 // Writes an attribute whose value stands in quotes after `#FIXED`; one that is no escape of a value is kept as none.
@@ -32,7 +34,8 @@ fn put_fixed(w: usize, owner: u8, name: &[u8], text: &[u8], out: &mut [u8], at: 
     let mut value = [0; 256];
     let n = text_scan::unescape(raw, &mut value).unwrap_or(0);
     let kept = codec::first(&value, layout::least(n, w));
-    layout_writer::put_attribute(w, owner, name, 2, kept, out, at)
+    let code = u8::from(AttributeSort::Fixed);
+    layout_writer::put_attribute(w, owner, name, code, kept, out, at)
 }
 
 // Writes an attribute by what stands after its type; a required one is filled with `-`.
@@ -42,13 +45,17 @@ fn put_declared(w: usize, owner: u8, name: &[u8], text: &[u8], out: &mut [u8], a
         out.old at result out.new }
 {
     let sort = declared_sort(text);
-    if sort == 0 {
-        return layout_writer::put_attribute(w, owner, name, 0, codec::first(text, 0), out, at);
+    let code = u8::from(sort);
+    match sort {
+        AttributeSort::Implied => {
+            layout_writer::put_attribute(w, owner, name, code, codec::first(text, 0), out, at)
+        }
+        AttributeSort::Required => {
+            let fill = codec::first(b"-", w);
+            layout_writer::put_attribute(w, owner, name, code, fill, out, at)
+        }
+        AttributeSort::Fixed => put_fixed(w, owner, name, text, out, at),
     }
-    if sort == 1 {
-        return layout_writer::put_attribute(w, owner, name, 1, codec::first(b"-", w), out, at);
-    }
-    put_fixed(w, owner, name, text, out, at)
 }
 
 /// Writes the attribute that a line declares, of definition number `owner`.

@@ -11,9 +11,11 @@ use Rattle.rules.specs.declared.Quantifier.{Quantifier}
 use Rattle.rules.specs.declared.Quantifier.TheVariants.{None, Qmark, Star, Plus}
 use Rattle.rules.specs.declared.GroupKind.{GroupKind}
 use Rattle.rules.specs.declared.GroupKind.TheVariants.{Sequence, Choice}
+use Rattle.rules.specs.declared.AttributeSort.{AttributeSort}
+use Rattle.rules.specs.declared.AttributeSort.TheVariants.{Implied, Required, Fixed}
 use Rattle.rules.specs.Bytes.{Bytes, ascii, all, between}
 use Rattle.rules.specs.Model.{Members, done, el, group, names, Full}
-use Rattle.rules.specs.Store.{Content, empty, pcdata, complex, AttributeSort, implied, required, fixed, Attribute, Definition, Form, Row, Forest, bare, tree, model_of, members}
+use Rattle.rules.specs.Store.{Content, empty, pcdata, complex, Attribute, Definition, Form, Row, Forest, bare, tree, model_of, members}
 use Rattle.rules.specs.WellFormed.{starts_name, in_name, is_name, stored_name, is_value, is_fill, is_attribute_of}
 use Rattle.rules.specs.Print.{Tokens, escape_byte, escape, mark_of, separator, member_tokens, content_tokens, definition_line, default_tokens, attribute_line, attribute_lines, form_lines}
 use Rattle.rules.proofs.Words.{and_split, and_both}
@@ -115,9 +117,9 @@ content_one_line (complex (group q k ms rest)) h =
     (refl, every_append OneLine (member_tokens Sequence [] (group q k ms rest)) (ascii ")" ∷ []) (members_one_line Sequence [] (group q k ms rest) refl h) (refl, tt))
 
 default_one_line : (n : Bytes) (k : AttributeSort) (v : Bytes) → OneLine v → Every OneLine (default_tokens (record { name = n; sort = k; value = v }))
-default_one_line n implied v h = (refl, tt)
-default_one_line n required v h = (refl, tt)
-default_one_line n fixed v h = (refl, (escape_one_line v h, (refl, tt)))
+default_one_line n Implied v h = (refl, tt)
+default_one_line n Required v h = (refl, tt)
+default_one_line n Fixed v h = (refl, (escape_one_line v h, (refl, tt)))
 
 -- ---- the lines of a form, each without its line feed
 abbrev definition_words : Definition → Tokens

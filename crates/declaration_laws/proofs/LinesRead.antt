@@ -7,9 +7,11 @@ use mathlib.Core.List.{List, [], ◌∷◌, ◌++◌, map}
 use lib.ListN.{length, length-append, take, drop}
 use lib.Seq.{take_all}
 use Rattle.rules.specs.declared.GroupKind.TheVariants.{Sequence}
+use Rattle.rules.specs.declared.AttributeSort.{AttributeSort}
+use Rattle.rules.specs.declared.AttributeSort.TheVariants.{Implied, Required, Fixed}
 use Rattle.rules.specs.Bytes.{Bytes, ascii, all}
 use Rattle.rules.specs.Model.{Members, done, el, group, names, Some, Full}
-use Rattle.rules.specs.Store.{Content, empty, pcdata, complex, AttributeSort, implied, required, fixed, Attribute, Definition, Form, bare, tree, model_of}
+use Rattle.rules.specs.Store.{Content, empty, pcdata, complex, Attribute, Definition, Form, bare, tree, model_of}
 use Rattle.rules.specs.Preorder.{Deep, preorder}
 use Rattle.rules.specs.Layout.{FlatParticle, quantifier_code, group_code, how_many, kind_code, sort_code, particles, content_particles, flat_definition}
 use Rattle.rules.specs.WellFormed.{is_name, is_attribute_of, definition_name}
@@ -146,20 +148,20 @@ after_type_lem n t h = ap (drop 7) (trailing_name n (ascii " CDATA " ++ t) h (na
 
 default_sort : (n : Bytes) (k : AttributeSort) (v : Bytes) → declared_sort (default_text (record { name = n; sort = k; value = v })) ≡ sort_code k
 unfolding put_tokens starts_with
-default_sort n implied v = refl
-default_sort n required v = refl
-default_sort n fixed v = refl
+default_sort n Implied v = refl
+default_sort n Required v = refl
+default_sort n Fixed v = refl
 
 default_value : (n : Bytes) (k : AttributeSort) (v : Bytes) → declared_value (default_text (record { name = n; sort = k; value = v })) ≡ canonical_fill k v
 unfolding put_tokens starts_with
-default_value n implied v = refl
-default_value n required v = refl
-default_value n fixed v = ap value_of_raw (leading_of no_quote (escape v) 34 (62 ∷ []) (escape_quoted v) refl) ∙ value_escape v
+default_value n Implied v = refl
+default_value n Required v = refl
+default_value n Fixed v = ap value_of_raw (leading_of no_quote (escape v) 34 (62 ∷ []) (escape_quoted v) refl) ∙ value_escape v
 
 fill_short : (w : ℕ) (k : AttributeSort) (v : Bytes) → 1 ≤ w → length v ≤ w → length (canonical_fill k v) ≤ w
-fill_short w implied v r l = omega arith
-fill_short w required v r l = r
-fill_short w fixed v r l = l
+fill_short w Implied v r l = omega arith
+fill_short w Required v r l = r
+fill_short w Fixed v r l = l
 
 pub attribute_in_lem : (w o : ℕ) (owner : Bytes) (a : Attribute) → 1 ≤ w → is_name owner ≡ true → is_attribute_of w a ≡ true
     → attribute_of_line w o (attribute_text owner a) ≡ attribute_of o a.name (sort_code a.sort) (canonical_fill a.sort a.value)

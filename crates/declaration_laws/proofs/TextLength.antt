@@ -10,9 +10,11 @@ use Rattle.rules.specs.declared.Quantifier.{Quantifier}
 use Rattle.rules.specs.declared.Quantifier.TheVariants.{None, Qmark, Star, Plus}
 use Rattle.rules.specs.declared.GroupKind.{GroupKind}
 use Rattle.rules.specs.declared.GroupKind.TheVariants.{Sequence, Choice}
+use Rattle.rules.specs.declared.AttributeSort.{AttributeSort}
+use Rattle.rules.specs.declared.AttributeSort.TheVariants.{Implied, Required, Fixed}
 use Rattle.rules.specs.Bytes.{Bytes, ascii, all}
 use Rattle.rules.specs.Model.{Members, done, el, group, names}
-use Rattle.rules.specs.Store.{Content, empty, pcdata, complex, AttributeSort, implied, required, fixed, Attribute, Definition, Form, Store, model_of, members}
+use Rattle.rules.specs.Store.{Content, empty, pcdata, complex, Attribute, Definition, Form, Store, model_of, members}
 use Rattle.rules.specs.Layout.{value_width, content_particles, flat_definition, all_particles, own_attributes, all_attributes, flat}
 use Rattle.rules.specs.WellFormed.{is_name, is_attribute_of}
 use Rattle.rules.specs.Passing.{Good}
@@ -99,9 +101,9 @@ definition_length w d r h =
 
 default_length : (w : ℕ) (n : Bytes) (k : AttributeSort) (v r : Bytes) → length v ≤ w → length (put_tokens (default_tokens (record { name = n; sort = k; value = v })) r) ≤ 9 + 6 * w + length r
 unfolding put_tokens
-default_length w n implied v r l = omega arith
-default_length w n required v r l = omega arith
-default_length w n fixed v r l = omega (arith, length-append (escape v) (34 ∷ r), escape_length v, l)
+default_length w n Implied v r l = omega arith
+default_length w n Required v r l = omega arith
+default_length w n Fixed v r l = omega (arith, length-append (escape v) (34 ∷ r), escape_length v, l)
 
 attribute_length_lem : (w : ℕ) (owner : Bytes) (a : Attribute) (r : Bytes) → is_name owner ≡ true → is_attribute_of w a ≡ true → length (put_tokens (attribute_line owner a) r) ≤ 61 + 6 * w + length r
 unfolding put_tokens

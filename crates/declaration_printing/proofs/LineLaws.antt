@@ -7,9 +7,11 @@ use native.Mathlib.Omega.{arith}
 use borrow.Author.Tests.{eq-eqb, ne_eqb}
 use lib.ListN.{length}
 use Rattle.rules.specs.declared.GroupKind.TheVariants.{Sequence}
+use Rattle.rules.specs.declared.AttributeSort.{AttributeSort}
+use Rattle.rules.specs.declared.AttributeSort.TheVariants.{Implied, Required, Fixed}
 use Rattle.rules.specs.Bytes.{Bytes, ascii, concat}
 use Rattle.rules.specs.Model.{Members}
-use Rattle.rules.specs.Store.{AttributeSort, implied, required, fixed, Attribute, Forest, bare, tree}
+use Rattle.rules.specs.Store.{Attribute, Forest, bare, tree}
 use Rattle.rules.specs.Preorder.{build}
 use Rattle.rules.specs.Layout.{attribute_size, FlatParticle, FlatAttribute}
 use Rattle.rules.specs.Decode.{name_at, group_of, sort_of, content_of, member_of, read_members, of_owner, read_attribute, read_definition, attribute_count, definition_count}
@@ -27,36 +29,31 @@ use Rattle.printing_parts.proofs.PartLaws.{attribute_step, attribute_name_lem, d
 
 -- ---- the default of an attribute
 abbrev default_by : AttributeSort → Bytes → Bytes
-default_by implied v = ascii "#IMPLIED" ++ []
-default_by required v = ascii "#REQUIRED" ++ []
-default_by fixed v = ascii "#FIXED \"" ++ (escape v ++ (ascii "\"" ++ []))
+default_by Implied v = ascii "#IMPLIED" ++ []
+default_by Required v = ascii "#REQUIRED" ++ []
+default_by Fixed v = ascii "#FIXED \"" ++ (escape v ++ (ascii "\"" ++ []))
 
 default_by_lem : (n v : Bytes) (s : AttributeSort) → concat (default_tokens (record { name = n; sort = s; value = v })) ≡ default_by s v
-default_by_lem n v implied = refl
-default_by_lem n v required = refl
-default_by_lem n v fixed = refl
+default_by_lem n v Implied = refl
+default_by_lem n v Required = refl
+default_by_lem n v Fixed = refl
 
-sort_fixed : (s : ℕ) → (s ≡ 0 → ⊥) → (s ≡ 1 → ⊥) → sort_of s ≡ fixed
-sort_fixed zero a b = absurd (a refl)
-sort_fixed (suc zero) a b = absurd (b refl)
-sort_fixed (suc (suc s)) a b = refl
-
-module _ (bs : Bytes) (i : ℕ) (p : Bytes) (at_i : p ≡ attribute_part bs i) (sort : ℕ) (sort_is : sort ≡ (read_attribute p).sort) where
+module _ (bs : Bytes) (i : ℕ) (p : Bytes) (at_i : p ≡ attribute_part bs i) (sort : AttributeSort) (sort_is : sort ≡ sort_of (read_attribute p).sort) where
   abbrev here : FlatAttribute
   here = read_attribute (attribute_part bs i)
 
-  sort_here : sort ≡ here.sort
-  sort_here = sort_is ∙ ap (λ (l : Bytes). (read_attribute l).sort) at_i
+  sort_here : sort ≡ sort_of here.sort
+  sort_here = sort_is ∙ ap (λ (l : Bytes). sort_of (read_attribute l).sort) at_i
 
-  default_is : (s : AttributeSort) → sort_of sort ≡ s → default_text here ≡ default_by s here.value
+  default_is : (s : AttributeSort) → sort ≡ s → default_text here ≡ default_by s here.value
   unfolding default_text
-  default_is s e = default_by_lem here.name here.value (sort_of here.sort) ∙ ap (λ (z : AttributeSort). default_by z here.value) (ap sort_of (sym sort_here) ∙ e)
+  default_is s e = default_by_lem here.name here.value (sort_of here.sort) ∙ ap (λ (z : AttributeSort). default_by z here.value) (sym sort_here ∙ e)
 
-  pub default_implied : {out o : Bytes} {at r : ℕ} → sort ≡ 0 → Laid (ascii "#IMPLIED") out at r o → LaidWithin 2000 (default_text here) out at r o
-  default_implied e l = record { laid = laid_as (default_is implied (ap sort_of e)) (laid_then l laid_none); small = omega (arith, l.next) }
+  pub default_implied : {out o : Bytes} {at r : ℕ} → sort ≡ Implied → Laid (ascii "#IMPLIED") out at r o → LaidWithin 2000 (default_text here) out at r o
+  default_implied e l = record { laid = laid_as (default_is Implied e) (laid_then l laid_none); small = omega (arith, l.next) }
 
-  pub default_required : {out o : Bytes} {at r : ℕ} → sort ≡ 1 → Laid (ascii "#REQUIRED") out at r o → LaidWithin 2000 (default_text here) out at r o
-  default_required e l = record { laid = laid_as (default_is required (ap sort_of e)) (laid_then l laid_none); small = omega (arith, l.next) }
+  pub default_required : {out o : Bytes} {at r : ℕ} → sort ≡ Required → Laid (ascii "#REQUIRED") out at r o → LaidWithin 2000 (default_text here) out at r o
+  default_required e l = record { laid = laid_as (default_is Required e) (laid_then l laid_none); small = omega (arith, l.next) }
 
   value_here : (v : Bytes) → v ≡ (read_attribute p).value → v ≡ here.value
   value_here v e = e ∙ ap (λ (l : Bytes). (read_attribute l).value) at_i
@@ -64,11 +61,11 @@ module _ (bs : Bytes) (i : ℕ) (p : Bytes) (at_i : p ≡ attribute_part bs i) (
   pub default_short : (v : Bytes) → v ≡ (read_attribute p).value → length v ≤ 255
   default_short v e = subst (λ (l : Bytes). length l ≤ 255) (sym (value_here v e)) (value_short bs i)
 
-  pub default_fixed : (v : Bytes) {out o₁ o₂ o : Bytes} {at a₁ a₂ r : ℕ} → (sort ≡ 0 → ⊥) → (sort ≡ 1 → ⊥) → v ≡ (read_attribute p).value
+  pub default_fixed : (v : Bytes) {out o₁ o₂ o : Bytes} {at a₁ a₂ r : ℕ} → sort ≡ Fixed → v ≡ (read_attribute p).value
       → Laid (ascii "#FIXED \"") out at a₁ o₁ → Laid (escape v) o₁ a₁ a₂ o₂ → Laid (ascii "\"") o₂ a₂ r o → LaidWithin 2000 (default_text here) out at r o
-  default_fixed v x y w l m g =
+  default_fixed v e w l m g =
       record {
-        laid = laid_as (default_is fixed (sort_fixed sort x y) ∙ ap (λ (z : Bytes). ascii "#FIXED \"" ++ (escape z ++ (ascii "\"" ++ []))) (sym (value_here v w)))
+        laid = laid_as (default_is Fixed e ∙ ap (λ (z : Bytes). ascii "#FIXED \"" ++ (escape z ++ (ascii "\"" ++ []))) (sym (value_here v w)))
             (laid_then l (laid_then m (laid_then g laid_none)));
         small = omega (arith, l.next, m.next, g.next, escape_length v, default_short v w);
       }

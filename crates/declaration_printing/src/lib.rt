@@ -11,7 +11,7 @@ ghost use Rattle.printing_parts.specs.Walking.{TextRoom, Passed, Stepped};
 ghost use Rattle.declaration_printing.specs.Declarations.{sign_text, member_text, members_text, LaidWithin, default_text, attribute_line_text, attributes_text, is_tree, content_text, definition_text};
 
 use printing_parts::Walked;
-use rules::{GroupKind, Quantifier};
+use rules::{AttributeSort, GroupKind, Quantifier};
 
 // ---- marks, separators
 
@@ -127,17 +127,16 @@ fn put_default(store: &[u8], i: usize, out: &mut [u8], at: usize) -> usize
     ensures { LaidWithin 2000 (default_text (read_attribute (attribute_part store.now i))) out.old at result out.new }
 {
     let bytes = printing_parts::attribute(store, i);
-    let sort = layout::attribute_sort(bytes);
-    if sort == 0 {
-        return codec::put(b"#IMPLIED", out, at);
+    match AttributeSort::from(layout::attribute_sort(bytes)) {
+        AttributeSort::Implied => codec::put(b"#IMPLIED", out, at),
+        AttributeSort::Required => codec::put(b"#REQUIRED", out, at),
+        AttributeSort::Fixed => {
+            let value = layout::attribute_value(bytes);
+            let quoted = codec::put(b"#FIXED \"", out, at);
+            let valued = escaping::put_escaped(value, out, quoted);
+            codec::put_u8(out, valued, b'"')
+        }
     }
-    if sort == 1 {
-        return codec::put(b"#REQUIRED", out, at);
-    }
-    let value = layout::attribute_value(bytes);
-    let quoted = codec::put(b"#FIXED \"", out, at);
-    let valued = escaping::put_escaped(value, out, quoted);
-    codec::put_u8(out, valued, b'"')
 }
 
 // Writes the line of attribute i of a definition of this name.

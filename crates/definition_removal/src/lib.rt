@@ -16,6 +16,7 @@ ghost use Rattle.definition_removal.specs.Shifting.{shifting};
 
 use filling::Filling;
 use row_walk::{Later, Plan, Shift, Which};
+use rules::RowSort;
 
 // ---- indices
 
@@ -115,9 +116,9 @@ fn is_root(rec: &[u8], i: u32) -> bool
     ensures { result ≡ is_root i (read_row rec.now) }
 {
     let depth = layout::row_depth(rec);
-    let sort = layout::row_sort(rec);
+    let element = layout::row_sort_of(rec) == Some(RowSort::Element);
     let index = layout::row_index(rec);
-    (depth == 0) & ((sort == 1) & (index == i))
+    (depth == 0) & (element & (index == i))
 }
 
 pub fn has_member(body: &[u8], count: usize, definition: u32) -> bool

@@ -1,2 +1,3 @@
 pub mod RowTexts
 pub mod RowLaws
+pub mod SortLaws

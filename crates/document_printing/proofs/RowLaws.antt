@@ -1,10 +1,12 @@
 -- One row of a document, written.
 use mathlib.Core.Path.{◌≡◌, refl, sym, ap, ap₂, ◌∙◌}
-use mathlib.Core.Bool.{Bool, true, false}
+use mathlib.Core.Bool.{Bool, true, false, ◌&&◌, and-true, and-false, false≢true}
 use mathlib.Core.List.{[], ◌++◌}
 use Prim.Native.Nat.{ℕ, zero, suc, ◌+◌, ◌*◌, ◌<◌, ◌≤◌}
 use native.Mathlib.Omega.{arith}
 use native.Mathlib.Numerals.{add-one}
+use borrow.Author.Tests.{eq-eqb, eqb-true}
+use lib.Dec.{eqb}
 use lib.ListN.{length-take, length, drop, length-append}
 use Rattle.rules.specs.Bytes.{Bytes, ascii}
 use Rattle.rules.specs.Store.{RowSort, element, attribute, text, Forest, tree}
@@ -34,6 +36,11 @@ stays_not zero opened h = refl
 stays_not (suc zero) opened h = refl
 stays_not (suc (suc zero)) opened h = absurd (h refl)
 stays_not (suc (suc (suc s))) opened h = refl
+
+-- what the comparison with the sort of an attribute gave
+pub stays_by : (s : ℕ) (opened : Bool) {b : Bool} → b ≡ eqb s 2 → (opened && b) ≡ stays (row_sort_of s) opened
+stays_by s opened {b = true} e = and-true opened ∙ ap (λ (k : ℕ). stays (row_sort_of k) opened) (sym (eqb-true s 2 (sym e)))
+stays_by s opened {b = false} e = and-false opened ∙ stays_not s opened (λ g. false≢true (e ∙ eq-eqb s 2 g))
 
 pub end_short : (opened : Bool) → length (end_text opened) ≤ 1
 end_short true = omega arith

@@ -13,6 +13,7 @@ ghost use Rattle.document_printing.specs.Documents.{Enclosed, end_text, stays, a
 ghost use Rattle.lookup.specs.Bodies.{rows_from};
 
 use printing_parts::Walked;
+use rules::RowSort;
 
 // Ends a start tag that is still open.
 fn put_end(opened: bool, out: &mut [u8], at: usize) -> usize
@@ -33,24 +34,27 @@ fn short_value(row: &[u8]) -> &[u8]
     layout::row_value(row)
 }
 
-// The name of a row of this sort and index.
-fn row_name_of(store: &[u8], sort: u8, index: usize) -> &[u8]
-    ensures { Named (row_name (names_of store.now) (attribute_names_of store.now) (row_sort_of sort) index) result.now }
+// The name of a row.
+fn row_name_of<'a>(store: &'a [u8], row: &[u8]) -> &'a [u8]
+    ensures { let r = (read_row row.now).row in
+        Named (row_name (names_of store.now) (attribute_names_of store.now) (row_sort_of r.sort) r.index) result.now }
 {
-    if sort == 1 {
+    let sort = layout::row_sort_of(row);
+    let index = layout::row_index(row) as usize;
+    if sort == Some(RowSort::Element) {
         return printing_parts::name_of(store, index);
     }
-    if sort == 2 {
+    if sort == Some(RowSort::Attribute) {
         return printing_parts::attribute_name_of(store, index);
     }
     &store[..0]
 }
 
-// Whether a start tag that is open stays so behind a row of this sort.
-fn stays_open(sort: u8, opened: bool) -> bool
-    ensures { result ≡ stays (row_sort_of sort) opened }
+// Whether a start tag that is open stays so behind a row.
+fn stays_open(row: &[u8], opened: bool) -> bool
+    ensures { result ≡ stays (row_sort_of (read_row row.now).row.sort) opened }
 {
-    if sort == 2 { opened } else { false }
+    opened & (layout::row_sort_of(row) == Some(RowSort::Attribute))
 }
 
 // Writes an attribute row.
@@ -115,9 +119,9 @@ fn put_row(
         count i depth at out.old result.next result.at out.new }
 {
     let bytes = layout::row_at(w, rows, i);
-    let sort = layout::row_sort(bytes);
+    let sort = layout::row_sort_of(bytes);
     let index = layout::row_index(bytes) as usize;
-    if sort == 2 {
+    if sort == Some(RowSort::Attribute) {
         let written = put_attribute(
             printing_parts::attribute_name_of(store, index),
             short_value(bytes),
@@ -128,7 +132,7 @@ fn put_row(
         return Walked { at: written, next };
     }
     let ended = put_end(opened, out, at);
-    if sort == 1 {
+    if sort == Some(RowSort::Element) {
         let name = printing_parts::name_of(store, index);
         return put_element(w, store, rows, count, i, depth, name, out, ended);
     }
@@ -168,7 +172,7 @@ fn put_rows(
         }
         if d == depth {
             let row = put_row(w, store, rows, count, i, depth, opened, out, at);
-            opened = stays_open(layout::row_sort(bytes), opened);
+            opened = stays_open(bytes, opened);
             at = row.at;
             i = row.next;
         } else {
@@ -195,8 +199,6 @@ fn put_document(
         count i 0 at out.old result.next result.at out.new }
 {
     let bytes = layout::row_at(w, rows, i);
-    let sort = layout::row_sort(bytes);
-    let index = layout::row_index(bytes) as usize;
     let root = put_element(
         w,
         store,
@@ -204,7 +206,7 @@ fn put_document(
         count,
         i,
         0,
-        row_name_of(store, sort, index),
+        row_name_of(store, bytes),
         out,
         at,
     );

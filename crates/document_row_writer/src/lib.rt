@@ -9,7 +9,7 @@ ghost use Rattle.document_tokens.specs.Tokens.{declared_in};
 ghost use Rattle.document_tokens.specs.Telling.{sort_code, FormRoom};
 ghost use Rattle.document_row_writer.specs.Putting.{documents_in, rows_or, RowsRead, made_row, made_count, Advanced, RowsPut, Starts, Kept, TokenPut, SomePut};
 
-use document_tokens::RowSort;
+use rules::RowSort;
 
 // ---- what a token does
 

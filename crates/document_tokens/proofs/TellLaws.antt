@@ -25,7 +25,7 @@ use Rattle.text_scan.proofs.ScanLaws.{leading_take, trailing_drop, starts_long}
 use Rattle.declaration_scan.specs.Declared.{place_among}
 use Rattle.declaration_scan.specs.Names.{written_names, PlaceIn}
 use Rattle.document_tokens.specs.Tokens.{Token, declared_in, declared_names, attribute_among, short_value, element_token, attribute_token, text_token, end_tag, end_token}
-use Rattle.document_tokens.specs.declared.RowSort.TheVariants.{Element, Attribute, Text}
+use Rattle.rules.specs.declared.RowSort.TheVariants.{Element, Attribute, Text}
 use Rattle.document_tokens.specs.declared.Token as code
 use Rattle.document_tokens.specs.declared.Quoted.{Quoted}
 use Rattle.document_tokens.specs.Telling.{sort_code, Tells, ValueRead, quoted_raw, is_quoted, QuoteTold, Quotes}

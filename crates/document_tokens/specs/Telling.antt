@@ -3,8 +3,8 @@ use Rattle.std.specs.Prelude.{ℕ, zero, suc, ◌+◌, ◌*◌, ◌≤◌, ◌�
 use Rattle.rules.specs.Bytes.{Bytes, ascii}
 use Rattle.rules.specs.Decode.{definition_count, attribute_count}
 use Rattle.text_scan.specs.Scan.{first_byte, starts_with, front_while, after_while, no_quote, unescaped, value_of_raw}
-use Rattle.document_tokens.specs.declared.RowSort.{RowSort}
-use Rattle.document_tokens.specs.declared.RowSort.TheVariants.{Element, Attribute, Text}
+use Rattle.rules.specs.declared.RowSort.{RowSort}
+use Rattle.rules.specs.RowSorts.{row_number}
 use Rattle.document_tokens.specs.declared.Token as code
 use Rattle.document_tokens.specs.declared.Quoted.{Quoted}
 use Rattle.document_tokens.specs.Tokens.{Token, short_value}
@@ -32,9 +32,7 @@ pub record TokenTold (t : Token) (size sort index n : ℕ) (value' : Bytes) : Ty
 -- the code of the row that a token makes, 0 if it makes none
 abbrev pub sort_code : Option RowSort → ℕ
 sort_code None = 0
-sort_code (Some Element) = 1
-sort_code (Some Attribute) = 2
-sort_code (Some Text) = 3
+sort_code (Some s) = row_number s
 
 -- it is there if it is exact, and is what it is then
 pub record Tells (t : Token) (value : Bytes) (r : Option code.Token) (value' : Bytes) : Type 0 where

@@ -9,22 +9,7 @@ ghost use Rattle.declaration_scan.specs.Names.{PlaceIn};
 ghost use Rattle.document_tokens.specs.Tokens.{declared_in, kind_of_definition, attribute_among, element_token, attribute_token, text_token, tag_token, start_end_token, end_token, token_at};
 ghost use Rattle.document_tokens.specs.Telling.{sort_code, FormRoom, stack_of, Tells, ValueRead, Quotes};
 
-/// The sort of a row.
-#[derive(Clone, Copy, Debug, PartialEq, Eq)]
-pub enum RowSort {
-    Element = 1,
-    Attribute = 2,
-    Text = 3,
-}
-
-impl From<RowSort> for u8 {
-    ghost from_gives = { λ sort code. code ≡ sort_code (Some sort) };
-
-    /// The code in the store.
-    fn from(sort: RowSort) -> u8 {
-        sort as u8
-    }
-}
+use rules::RowSort;
 
 /// What stands at a place of a text as it is printed. `sort`: of the row that it makes, if it makes one; `length`: of
 /// its value, which is in a buffer.

@@ -13,12 +13,12 @@ use Rattle.rules.specs.contracts.GroupKind.{the_type}
 use denote.Enum.Bare.{sameb}
 use Rattle.rules.specs.declared.GroupKind.TheVariants.{Sequence, Choice}
 use Rattle.rules.specs.declared.Quantifier.{Quantifier}
+use Rattle.rules.specs.declared.AttributeSort.{AttributeSort}
 use Rattle.rules.specs.Bytes.{Bytes}
 use Rattle.rules.specs.Model.{Members, done, el, group, skips, both, neutral, nothing, unless, beside, filling}
 use Rattle.rules.specs.Preorder.{Deep}
 use Rattle.rules.specs.Layout.{attribute_size, FlatRow}
 use Rattle.rules.specs.Decode.{quantifier_of, group_of, read_particle, read_attribute, sort_of}
-use Rattle.rules.specs.Store.{AttributeSort}
 use Rattle.rules.specs.Conforming.{must_be_present}
 use Rattle.rules.specs.Filling.{created_value}
 use Rattle.codec.proofs.Writers.{tail_seen}
@@ -28,6 +28,9 @@ use Rattle.model.specs.declared.Particle.{Particle}
 use Rattle.model.specs.Particle.{what_of, particle_of}
 use Rattle.model.specs.Members.{index_member, members_from, all_members}
 use Rattle.model.proofs.MembersLaws.{members_few, members_deeper, members_stop, members_here}
+use Rattle.form_index.specs.declared.Kind.{Kind}
+use Rattle.form_index.specs.declared.Kind.TheVariants.{Empty, Pcdata, Complex}
+use Rattle.form_index.specs.Kinds.{kind_by}
 use Rattle.form_index.specs.Indices.{IndexForm}
 use Rattle.layout.specs.Bodies.{record_at}
 use Rattle.layout.proofs.LayoutLaws.{attribute_value_short}
@@ -50,14 +53,36 @@ use Rattle.rules.specs.Layout.{particle_size}
 created_short : (sort : AttributeSort) (fill : Bytes) → length (created_value sort fill) ≤ length fill
 created_short sort fill = omega arith
 
--- b: the record of attribute j, k: its sort, u: its fill
-pub created_told : (w : ℕ) (attrs : Bytes) (j : ℕ) (b : Bytes) (k : ℕ) (u v : Bytes) → b ≡ record_at (attribute_size w) j attrs → k ≡ (read_attribute b).sort → u ≡ (read_attribute b).value
-    → v ≡ created_value (sort_of k) u → (v ≡ value_in w attrs j) × (length v ≤ w)
-created_told w attrs j b k u v e s t x =
+-- b: the record of attribute j, k: the code of its sort, q: its sort, u: its fill
+pub created_told : (w : ℕ) (attrs : Bytes) (j : ℕ) (b : Bytes) (k : ℕ) (q : AttributeSort) (u v : Bytes) → b ≡ record_at (attribute_size w) j attrs
+    → k ≡ (read_attribute b).sort → q ≡ sort_of k → u ≡ (read_attribute b).value → v ≡ created_value q u → (v ≡ value_in w attrs j) × (length v ≤ w)
+created_told w attrs j b k q u v e s r t x =
     let long : length b ≤ attribute_size w = omega (arith, ap length e, length-take (attribute_size w) (drop (attribute_size w * j) attrs)) in (
-      x ∙ ap₂ (λ (y : ℕ) (z : Bytes). created_value (sort_of y) z) (s ∙ ap (λ (z : Bytes). (read_attribute z).sort) e) (t ∙ ap (λ (z : Bytes). (read_attribute z).value) e),
-      omega (arith, ap length x, created_short (sort_of k) u, ap length t, attribute_value_short b w long),
+      x ∙ ap (λ (y : AttributeSort). created_value y u) r
+          ∙ ap₂ (λ (y : ℕ) (z : Bytes). created_value (sort_of y) z) (s ∙ ap (λ (z : Bytes). (read_attribute z).sort) e) (t ∙ ap (λ (z : Bytes). (read_attribute z).value) e),
+      omega (arith, ap length x, created_short q u, ap length t, attribute_value_short b w long),
     )
+
+-- ---- the kind of a definition by its code
+abbrev kind_number : Kind → ℕ
+kind_number Empty = 0
+kind_number Pcdata = 1
+kind_number Complex = 2
+
+pub kind_none : (k : ℕ) → kind_by k ≡ Empty → k ≡ 0
+kind_none zero h = refl
+kind_none (suc zero) h = let z : ◌≡◌ {A = ℕ} 1 0 = ap kind_number h in absurd (omega arith)
+kind_none (suc (suc k)) h = let z : ◌≡◌ {A = ℕ} 2 0 = ap kind_number h in absurd (omega arith)
+
+pub kind_text : (k : ℕ) → kind_by k ≡ Pcdata → k ≡ 1
+kind_text zero h = let z : ◌≡◌ {A = ℕ} 0 1 = ap kind_number h in absurd (omega arith)
+kind_text (suc zero) h = refl
+kind_text (suc (suc k)) h = let z : ◌≡◌ {A = ℕ} 2 1 = ap kind_number h in absurd (omega arith)
+
+pub kind_model : (k : ℕ) → kind_by k ≡ Complex → 2 ≤ k
+kind_model zero h = let z : ◌≡◌ {A = ℕ} 0 2 = ap kind_number h in absurd (omega arith)
+kind_model (suc zero) h = let z : ◌≡◌ {A = ℕ} 1 2 = ap kind_number h in absurd (omega arith)
+kind_model (suc (suc k)) h = omega arith
 
 -- ---- attributes
 module _ (F : IndexForm) (value : ℕ → Bytes) (d i : ℕ) where

@@ -14,10 +14,11 @@ ghost use Rattle.filling.specs.Parts.{definition_rows, member_rows, below_rows, 
 ghost use Rattle.layout.specs.Fields.{particle_quantifier_at, particle_sort_at};
 ghost use Rattle.rules.specs.Layout.{particle_size};
 
+use form_index::Kind;
 use layout::{Form, PARTICLE_SIZE};
 use model::What;
 use row_writer::Cursor;
-use rules::{GroupKind, Quantifier};
+use rules::{AttributeSort, GroupKind, Quantifier};
 
 /// What a change fills with: nothing, a definition by its index, one row of an attribute by its index, or a group of a
 /// kind by the number of its first member in the particle body and the depth of its members.
@@ -154,7 +155,7 @@ fn created_value(w: usize, attrs: &[u8], j: usize) -> &[u8]
     ensures { (result.now ≡ value_in w attrs.now j) × (length result.now ≤ w) }
 {
     let record = layout::attribute_at(w, attrs, j);
-    let sort = layout::attribute_sort(record);
+    let sort = AttributeSort::from(layout::attribute_sort(record));
     records::created_value(sort, layout::attribute_value(record))
 }
 
@@ -302,11 +303,10 @@ fn put_below(
     ensures { Written form.now.width (below_rows form.now text.now h depth i)
         c.old out.old c.new out.new }
 {
-    let k = form_index::kind_of(form.definitions, i);
-    match k {
-        0 => {}
-        1 => row_writer::put_new(form.width, 3, depth, 0, text, c, out),
-        _ => {
+    match form_index::content_kind(form.definitions, i) {
+        Kind::Empty => {}
+        Kind::Pcdata => row_writer::put_new(form.width, 3, depth, 0, text, c, out),
+        Kind::Complex => {
             let s = form_index::model_part(form.definitions, form.particles, i);
             if needs_no_element(s, 0) {
                 return;

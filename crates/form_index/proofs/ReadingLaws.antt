@@ -6,6 +6,7 @@ use mathlib.Core.Path.{◌≡◌, refl, ap, ◌∙◌}
 use mathlib.Core.Bool.{Bool, ◌&&◌}
 use lib.Dec.{eqb}
 use lib.ListN.{take, drop}
+use Rattle.rules.specs.declared.AttributeSort.{AttributeSort}
 use Rattle.rules.specs.Bytes.{Bytes}
 use Rattle.rules.specs.Layout.{attribute_size}
 use Rattle.rules.specs.Decode.{sort_of, read_attribute}
@@ -41,6 +42,7 @@ module _ (w : ℕ) (record' attrs : Bytes) (j : ℕ) (e : record' ≡ record_at 
   pub owner_read : (o : ℕ) → o ≡ (read_attribute record').owner → o ≡ (attribute_in w attrs j).owner
   owner_read o h = h ∙ ap (λ (b : Bytes). (read_attribute b).owner) e
 
-  pub needs_read : (version i o s : ℕ) (b : Bool) → o ≡ (read_attribute record').owner → s ≡ (read_attribute record').sort → b ≡ must_be_present version (sort_of s)
+  pub needs_read : (version i o s : ℕ) (k : AttributeSort) (b : Bool) → o ≡ (read_attribute record').owner → s ≡ (read_attribute record').sort
+      → k ≡ sort_of s → b ≡ must_be_present version k
       → (eqb o i && b) ≡ (eqb (attribute_in w attrs j).owner i && must_be_present version (sort_of (attribute_in w attrs j).sort))
-  needs_read version i o s b p q r = rw (owner_read o p, r, sort_read s q)
+  needs_read version i o s k b p q t r = rw (owner_read o p, r, t, sort_read s q)

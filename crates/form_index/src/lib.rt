@@ -10,6 +10,7 @@ ghost use Rattle.form_index.specs.Kinds.{kind_by};
 ghost use Rattle.form_index.specs.Reading.{definition_in, attribute_in, particles_before, model_part};
 
 use layout::PARTICLE_SIZE;
+use rules::AttributeSort;
 
 // ---- definitions
 /// What an element of a definition has below it, besides its attributes' rows: nothing, one text, or elements by the
@@ -89,7 +90,7 @@ pub fn value_may(w: usize, attrs: &[u8], j: usize, v: &[u8]) -> bool
     ensures { result ≡ allows (sort_of (attribute_in w attrs.now j).sort) (attribute_in w attrs.now j).value v.now }
 {
     let record = layout::attribute_at(w, attrs, j);
-    let sort = layout::attribute_sort(record);
+    let sort = AttributeSort::from(layout::attribute_sort(record));
     records::value_allowed(sort, layout::attribute_value(record), v)
 }
 
@@ -99,6 +100,6 @@ pub fn needs(version: usize, w: usize, attrs: &[u8], i: usize, j: usize) -> bool
     ensures { result ≡ (eqb (attribute_in w attrs.now j).owner i && must_be_present version (sort_of (attribute_in w attrs.now j).sort)) }
 {
     let record = layout::attribute_at(w, attrs, j);
-    let sort = layout::attribute_sort(record);
+    let sort = AttributeSort::from(layout::attribute_sort(record));
     (layout::attribute_owner(record) == i) & records::must_be_present(version, sort)
 }

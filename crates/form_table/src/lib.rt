@@ -11,6 +11,7 @@ ghost use Rattle.form_table.specs.Every.{every};
 ghost use Rattle.form_table.specs.Table.{freed_of, FormFew, Lined, Modelled, Needed, OneNeed, Needs, TabledForm};
 
 use layout::Form;
+use rules::AttributeSort;
 
 /// The numbers of a table: 68 for each of 64 definitions.
 pub const TABLE: usize = 4352;
@@ -36,7 +37,8 @@ fn lay_need(form: &Form<'_>, j: usize, table: &mut [u64])
 {
     let record = layout::attribute_at(form.width, form.attributes, j);
     let i = layout::attribute_owner(record);
-    if !records::must_be_present(form.version, layout::attribute_sort(record)) {
+    let sort = AttributeSort::from(layout::attribute_sort(record));
+    if !records::must_be_present(form.version, sort) {
         return;
     }
     if i >= form.definition_count {

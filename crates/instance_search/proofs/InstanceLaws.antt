@@ -46,9 +46,9 @@ instance_is bs w o l =
     ∙ rows_have (form_in bs) w.good.form.names o l 0 [] 0 (docs_in bs)
 
 -- ---- the loop over the rows
-pub instance_row_lem : (o : ℕ) (at : Bytes) {row : Bytes} {index : ℕ} {sort : ℕ} → row ≡ at → sort ≡ (read_row row).row.sort → index ≡ (read_row row).row.index
-    → (eqb sort 1 && eqb index o) ≡ instance_row o (read_row at)
-instance_row_lem o at {row} e s x = ap₂ (λ (a b : ℕ). eqb a 1 && eqb b o) s x ∙ ap (λ (z : Bytes). instance_row o (read_row z)) e
+pub instance_row_lem : (o : ℕ) (at : Bytes) {row : Bytes} {index : ℕ} {element : Bool} → row ≡ at → element ≡ eqb (read_row row).row.sort 1 → index ≡ (read_row row).row.index
+    → (element && eqb index o) ≡ instance_row o (read_row at)
+instance_row_lem o at {row} e s x = ap₂ (λ (a : Bool) (b : ℕ). a && eqb b o) s x ∙ ap (λ (z : Bytes). instance_row o (read_row z)) e
 
 pub instances_any : (bs : Bytes) (o : ℕ) {w count : ℕ} {rows : Bytes} {r : Bool} → WidthIn bs w → Number (row_count bs) count → rows ≡ tree_rows_in bs
     → r ≡ any (instance_row o) (read_many read_row (row_size w) count rows)

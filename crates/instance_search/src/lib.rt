@@ -4,6 +4,8 @@
 ghost use Rattle.std.specs.Prelude.{◌≡◌};
 ghost use Rattle.instance_search.specs.Instances.{has_instance, refused_where};
 
+use rules::RowSort;
+
 /// Whether an instance of a definition exists.
 pub fn instance_exists(store: &[u8], definition: u32) -> bool
     ensures { result ≡ has_instance store.now definition }
@@ -13,7 +15,8 @@ pub fn instance_exists(store: &[u8], definition: u32) -> bool
     let count = layout::row_count(store);
     for i in 0..count {
         let row = layout::row_at(w, rows, i);
-        if (layout::row_sort(row) == 1) & (layout::row_index(row) == definition) {
+        let element = layout::row_sort_of(row) == Some(RowSort::Element);
+        if element & (layout::row_index(row) == definition) {
             return true;
         }
     }

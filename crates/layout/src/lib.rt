@@ -5,12 +5,15 @@
 ghost use Rattle.std.specs.Prelude.{◌≡◌, min, ◌+◌, ◌-◌, ◌*◌, ◌<◌, take, drop};
 ghost use Rattle.rules.specs.Layout.{value_width, header_size, definition_size, particle_size, attribute_size, row_size};
 ghost use Rattle.rules.specs.Decode.{number_at, version_in, next_serial, read_definition, read_particle, read_attribute, read_row, definition_count, particle_count, attribute_count, row_count};
+ghost use Rattle.rules.specs.RowSorts.{read_sort};
 ghost use Rattle.codec.specs.Part.{part_of};
 ghost use Rattle.layout.specs.Fields.{definition_entry_at, particle_entry_at, attribute_entry_at, row_entry_at, attribute_length, row_length, unused_fit};
 ghost use Rattle.layout.specs.Bodies.{Width, window_of, Product, record_at, Number, WidthIn, ShapeFits, ShapeOf, attributes_start, rows_start, Place};
 ghost use Rattle.layout.specs.Bodies.{definition_body, particle_body, attribute_body, row_body, definitions_in, particles_in, attributes_in, tree_rows_in};
 ghost use Rattle.layout.specs.Bodies.{attribute_bytes_in, ValueAt};
 ghost use Rattle.layout.specs.Form.{FormOf};
+
+use rules::RowSort;
 
 pub const HEADER_SIZE: usize = 40;
 
@@ -173,6 +176,18 @@ pub fn row_sort(row: &[u8]) -> u8
     ensures { result ≡ (read_row row.now).row.sort }
 {
     codec::byte(row, 0)
+}
+
+/// The sort of a row; none where its byte is no sort's.
+pub fn row_sort_of(row: &[u8]) -> Option<RowSort>
+    ensures { result ≡ read_sort (read_row row.now).row.sort }
+{
+    match row_sort(row) {
+        1 => Some(RowSort::Element),
+        2 => Some(RowSort::Attribute),
+        3 => Some(RowSort::Text),
+        _ => None,
+    }
 }
 
 pub fn row_depth(row: &[u8]) -> u8

@@ -5,6 +5,8 @@ ghost use Rattle.std.specs.Prelude.{◌≡◌, ◌+◌, ◌<◌, length};
 ghost use Rattle.lookup.specs.Bodies.{RowsBegin, RowPlace, from_rows, row_part};
 ghost use Rattle.lookup.specs.Finding.{Looks, Hands, found_on, found_row_at};
 
+use rules::RowSort;
+
 /// Where the tree rows begin.
 pub fn row_start(store: &[u8]) -> usize
     ensures { RowsBegin store.now result }
@@ -55,7 +57,7 @@ fn found_at(store: &[u8], i: usize) -> Found
     ensures { Looks (found_row_at store.now i) result.number result.start result.length }
 {
     let bytes = row(store, i);
-    if layout::row_sort(bytes) == 1 {
+    if layout::row_sort_of(bytes) == Some(RowSort::Element) {
         return Found {
             number: 7,
             start: 0,

@@ -3,12 +3,14 @@
 #![tactic(auto)]
 
 ghost use Rattle.std.specs.Prelude.{◌≡◌};
+ghost use Rattle.rules.specs.Layout.{sort_code};
 ghost use Rattle.plans.specs.CallPlans.{unmarked, filling_plan, taking_plan, setting_plan, set_attribute_plan};
 ghost use Rattle.plans.specs.AttributeCalls.{add_attribute_plan, destroy_attribute_plan};
 ghost use Rattle.plans.specs.ModelCalls.{cut_takes, gain_filling, insert_element_plan, requantify_plan};
 
 use filling::Filling;
 use row_walk::{Later, Plan, Shift, Which};
+use rules::AttributeSort;
 
 const UNMOVED: Shift = Shift {
     from: 0,
@@ -65,8 +67,8 @@ pub fn setting_plan(set: u32) -> Plan
 // ---- attributes
 
 /// 9: an attribute of definition `owner` at `at`, of a sort, in a store of a version.
-pub fn add_attribute_plan(version: usize, owner: usize, at: usize, sort: u8) -> Plan
-    ensures { result ≡ add_attribute_plan version owner at sort }
+pub fn add_attribute_plan(version: usize, owner: usize, at: usize, sort: AttributeSort) -> Plan
+    ensures { result ≡ add_attribute_plan version owner at (sort_code sort) }
 {
     Plan {
         above: Which::Elements(owner),

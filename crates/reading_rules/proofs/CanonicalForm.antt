@@ -11,10 +11,12 @@ use lib.Dec.{leb}
 use Rattle.rules.specs.declared.Quantifier.{Quantifier}
 use Rattle.rules.specs.declared.GroupKind.{GroupKind}
 use Rattle.rules.specs.declared.GroupKind.TheVariants.{Sequence}
+use Rattle.rules.specs.declared.AttributeSort.{AttributeSort}
+use Rattle.rules.specs.declared.AttributeSort.TheVariants.{Implied, Required, Fixed}
 use Rattle.rules.specs.Bytes.{Bytes}
 use Rattle.rules.specs.Model.{Members, done, el, group, names, Distinct, Some, Full}
 use Rattle.rules.specs.Language.{Matches, Repeated}
-use Rattle.rules.specs.Store.{Content, empty, pcdata, complex, AttributeSort, implied, required, fixed, Attribute, Definition, Form}
+use Rattle.rules.specs.Store.{Content, empty, pcdata, complex, Attribute, Definition, Form}
 use Rattle.rules.specs.Store.{RowSort, element, attribute, text, Row, Forest, model_of}
 use Rattle.rules.specs.WellFormed.{stored_name, is_value, is_fill, is_attribute_of, lookup, is_there, known, names_in, members_of, definition_name, attribute_name}
 use Rattle.rules.specs.WellFormed.{Reaches, directly, through, GoodDefinition, WellFormed}
@@ -111,9 +113,9 @@ definition_names form = map-map definition_name canonical_definition form
 -- ---- well-formed, where a value has room for the `-`
 module _ (w : ℕ) (roomy : leb 1 w ≡ true) where
   fill_good : (k : AttributeSort) (v : Bytes) → (is_value w v && is_fill k v) ≡ true → (is_value w (canonical_fill k v) && is_fill k (canonical_fill k v)) ≡ true
-  fill_good implied v e = let (h, t) = and_split (is_value w v) (is_fill implied v) e in subst (λ (z : Bytes). (is_value w z && true) ≡ true) (none_nil v t) (and_both h refl)
-  fill_good required v e = rw roomy
-  fill_good fixed v e = e
+  fill_good Implied v e = let (h, t) = and_split (is_value w v) (is_fill Implied v) e in subst (λ (z : Bytes). (is_value w z && true) ≡ true) (none_nil v t) (and_both h refl)
+  fill_good Required v e = rw roomy
+  fill_good Fixed v e = e
 
   attribute_good : (a : Attribute) → is_attribute_of w a ≡ true → is_attribute_of w (canonical_attribute a) ≡ true
   attribute_good a e =
@@ -153,9 +155,9 @@ content_rows_lem (complex (group q k ms rest)) rows (o, l) = (o, (members_alike 
 
 -- the values that an attribute allows do not depend on the fill of a REQUIRED one
 allows_canonical : (k : AttributeSort) (fill v : Bytes) → allows k (canonical_fill k fill) v ≡ allows k fill v
-allows_canonical implied fill v = refl
-allows_canonical required fill v = refl
-allows_canonical fixed fill v = refl
+allows_canonical Implied fill v = refl
+allows_canonical Required fill v = refl
+allows_canonical Fixed fill v = refl
 
 attribute_rows : (version : ℕ) (table : List Attribute) (rows : List Row) → AttributeRows version table rows → AttributeRows version (map canonical_attribute table) rows
 attribute_rows version table rows x =

@@ -7,9 +7,11 @@ use mathlib.Core.Path.{◌≡◌, refl, ap, ◌∙◌}
 use mathlib.Core.Bool.{true, false}
 use mathlib.Core.List.{List, [], ◌∷◌, ◌++◌, map}
 use lib.ListN.{length, length-append}
+use Rattle.rules.specs.declared.AttributeSort.{AttributeSort}
+use Rattle.rules.specs.declared.AttributeSort.TheVariants.{Implied, Required, Fixed}
 use Rattle.rules.specs.Bytes.{Bytes, ascii, all}
 use Rattle.rules.specs.Model.{names, Full}
-use Rattle.rules.specs.Store.{AttributeSort, implied, required, fixed, Attribute, Definition, Form, members}
+use Rattle.rules.specs.Store.{Attribute, Definition, Form, members}
 use Rattle.rules.specs.WellFormed.{in_name, is_name}
 use Rattle.rules.specs.Print.{Tokens, escape, content_tokens, definition_line, default_tokens, attribute_line, attribute_lines, form_lines}
 use Rattle.rules.proofs.BooleanLaws.{Every}
@@ -33,9 +35,9 @@ name_stops x r e = record { head = x; tail = r; is = refl; name = e }
 default_of_text_lem : (n : Bytes) (k : AttributeSort) (v r : Bytes)
     → default_of_text (put_tokens (default_tokens (record { name = n; sort = k; value = v })) r) ≡ record { value = record { sort = k; value = canonical_fill k v }; rest = r }
 unfolding default_of_text starts_with put_tokens
-default_of_text_lem n implied v r = refl
-default_of_text_lem n required v r = refl
-default_of_text_lem n fixed v r = rw (leading_of no_quote (escape v) 34 r (escape_quoted v) refl, trailing_of no_quote (escape v) 34 r (escape_quoted v) refl, value_escape v)
+default_of_text_lem n Implied v r = refl
+default_of_text_lem n Required v r = refl
+default_of_text_lem n Fixed v r = rw (leading_of no_quote (escape v) 34 r (escape_quoted v) refl, trailing_of no_quote (escape v) 34 r (escape_quoted v) refl, value_escape v)
 
 -- an attribute line after its owner's name
 pub attribute_of_text_lem : (a : Attribute) (r : Bytes) → is_name a.name ≡ true

@@ -6,10 +6,11 @@ use mathlib.Core.List.{[], ◌∷◌}
 use lib.ListN.{length}
 use Rattle.rules.specs.declared.Quantifier.TheVariants.{None, Star}
 use Rattle.rules.specs.declared.GroupKind.TheVariants.{Sequence, Choice}
+use Rattle.rules.specs.declared.AttributeSort.TheVariants.{Implied}
 use Rattle.rules.specs.Bytes.{Bytes, ascii, concat}
 use Rattle.rules.specs.Model.{done, el, group, names, member, full, distinct}
 use Rattle.rules.specs.Automaton.{accepts, continues, facts}
-use Rattle.rules.specs.Store.{Content, empty, complex, implied, Definition, Form, element, attribute, Row, Forest, bare, tree, Store}
+use Rattle.rules.specs.Store.{Content, empty, complex, Definition, Form, element, attribute, Row, Forest, bare, tree, Store}
 use Rattle.rules.specs.Layout.{base_version, value_width, encode}
 use Rattle.rules.specs.WellFormed.{good_definition, well_formed}
 use Rattle.rules.specs.Conforming.{strip, fits_row, conforming}
@@ -40,7 +41,7 @@ one_definition = store_having 1 (defined "a" empty ∷ []) bare
 -- a, EMPTY with an IMPLIED v, and a document in which v is `>`
 abbrev one_value : Store
 one_value =
-    store_having 3 (record { name = ascii "a"; content = empty; attributes = record { name = ascii "v"; sort = implied; value = [] } ∷ [] } ∷ [])
+    store_having 3 (record { name = ascii "a"; content = empty; attributes = record { name = ascii "v"; sort = Implied; value = [] } ∷ [] } ∷ [])
     (tree (element_numbered 1 "a") (tree (record { serial = 2; sort = attribute; name = ascii "v"; value = ascii ">" }) bare bare) bare)
 
 -- r with a CHOICE of a and b as its one member

@@ -10,7 +10,7 @@ use mathlib.Core.List.{List, [], ◌∷◌, ◌++◌, map, Memᴰ}
 use lib.ListN.{length}
 use Rattle.rules.specs.Bytes.{Bytes, is_none}
 use Rattle.rules.specs.Model.{names}
-use Rattle.rules.specs.Store.{Content, empty, pcdata, complex, Attribute, Definition, Form, element, attribute, text, Row, Forest, Store, members}
+use Rattle.rules.specs.Store.{Content, empty, pcdata, complex, Attribute, Definition, Form, element, attribute, Row, Forest, Store, members}
 use Rattle.rules.specs.Layout.{value_width}
 use Rattle.rules.specs.WellFormed.{is_name, stored_name, is_value, is_fill, is_attribute_of, lookup, known, attribute_name, GoodDefinition, WellFormed}
 use Rattle.rules.specs.Conforming.{name_of, EveryRow, Sorted, ContentRows, ElementRows, RowConforms}

@@ -5,9 +5,11 @@ use mathlib.Core.Path.{◌≡◌, refl, ap, ap₂, ◌∙◌}
 use mathlib.Core.List.{List, [], ◌∷◌, ◌++◌, map}
 use Rattle.rules.specs.declared.GroupKind.{GroupKind}
 use Rattle.rules.specs.declared.GroupKind.TheVariants.{Sequence}
+use Rattle.rules.specs.declared.AttributeSort.{AttributeSort}
+use Rattle.rules.specs.declared.AttributeSort.TheVariants.{Implied, Required, Fixed}
 use Rattle.rules.specs.Bytes.{Bytes, ascii, concat}
 use Rattle.rules.specs.Model.{Members, done, el, group}
-use Rattle.rules.specs.Store.{Content, empty, pcdata, complex, AttributeSort, implied, required, fixed, Attribute, Form, RowSort, element, attribute, text, Row, Forest, bare, tree, Store}
+use Rattle.rules.specs.Store.{Content, empty, pcdata, complex, Attribute, Form, RowSort, element, attribute, text, Row, Forest, bare, tree, Store}
 use Rattle.rules.specs.Change.{each_row, new_rows, given, number}
 use Rattle.rules.specs.Print.{Tokens, escape, mark_of, separator, member_tokens, content_tokens, default_tokens, attribute_lines, form_lines, row_tokens, document_lines, printed}
 use Rattle.reading_rules.specs.Canonical.{canonical_kind, canonical_members, canonical_content, canonical_attribute, canonical_definition, unnumbered, canonical}
@@ -40,9 +42,9 @@ content_text_lem (complex (group q k ms rest)) = ap (λ (z : Tokens). ascii "(" 
 
 -- ---- declarations
 default_text_lem : (n : Bytes) (k : AttributeSort) (v : Bytes) → default_tokens (canonical_attribute (record { name = n; sort = k; value = v })) ≡ default_tokens (record { name = n; sort = k; value = v })
-default_text_lem n implied v = refl
-default_text_lem n required v = refl
-default_text_lem n fixed v = refl
+default_text_lem n Implied v = refl
+default_text_lem n Required v = refl
+default_text_lem n Fixed v = refl
 
 attributes_text_lem : (owner : Bytes) (table : List Attribute) → attribute_lines owner (map canonical_attribute table) ≡ attribute_lines owner table
 attributes_text_lem owner [] = refl

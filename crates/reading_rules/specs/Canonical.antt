@@ -2,10 +2,12 @@
 use Rattle.std.specs.Prelude.{◌+◌, true, false, [], map}
 use Rattle.rules.specs.declared.GroupKind.{GroupKind}
 use Rattle.rules.specs.declared.GroupKind.TheVariants.{Sequence}
+use Rattle.rules.specs.declared.AttributeSort.{AttributeSort}
+use Rattle.rules.specs.declared.AttributeSort.TheVariants.{Implied, Required, Fixed}
 use Rattle.rules.specs.Bytes.{Bytes, ascii}
 use Rattle.rules.specs.Model.{Members, done, el, group}
 use Rattle.rules.specs.Edit.{lone}
-use Rattle.rules.specs.Store.{Content, empty, pcdata, complex, AttributeSort, implied, required, fixed, Attribute, Definition, Row, Forest, Store}
+use Rattle.rules.specs.Store.{Content, empty, pcdata, complex, Attribute, Definition, Row, Forest, Store}
 use Rattle.rules.specs.Change.{each_row, new_rows, number}
 
 -- 'a one-member group read as LIST'
@@ -30,9 +32,9 @@ canonical_content (complex ms) = canonical_model ms
 
 -- 'fill `-` for REQUIRED'
 abbrev pub canonical_fill : AttributeSort → Bytes → Bytes
-canonical_fill implied v = []
-canonical_fill required v = ascii "-"
-canonical_fill fixed v = v
+canonical_fill Implied v = []
+canonical_fill Required v = ascii "-"
+canonical_fill Fixed v = v
 
 abbrev pub canonical_attribute : Attribute → Attribute
 canonical_attribute a = record { name = a.name; sort = a.sort; value = canonical_fill a.sort a.value }

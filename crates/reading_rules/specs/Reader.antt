@@ -5,9 +5,11 @@ use Rattle.rules.specs.declared.Quantifier.{Quantifier}
 use Rattle.rules.specs.declared.Quantifier.TheVariants.{None, Qmark, Star, Plus}
 use Rattle.rules.specs.declared.GroupKind.{GroupKind}
 use Rattle.rules.specs.declared.GroupKind.TheVariants.{Sequence, Choice}
+use Rattle.rules.specs.declared.AttributeSort.{AttributeSort}
+use Rattle.rules.specs.declared.AttributeSort.TheVariants.{Implied, Required, Fixed}
 use Rattle.rules.specs.Bytes.{Bytes, ascii, is_none}
 use Rattle.rules.specs.Model.{Members, done, el, group}
-use Rattle.rules.specs.Store.{Content, empty, pcdata, complex, AttributeSort, implied, required, fixed, Attribute, Definition, Form, attribute, text, Row, Forest, bare, tree, Store}
+use Rattle.rules.specs.Store.{Content, empty, pcdata, complex, Attribute, Definition, Form, attribute, text, Row, Forest, bare, tree, Store}
 use Rattle.rules.specs.WellFormed.{in_name, lookup}
 use Rattle.rules.specs.Filling.{element_row}
 use Rattle.rules.specs.Change.{new_rows, number}
@@ -81,11 +83,11 @@ pub record Default : Type 0 where
 unfoldable pub default_of_text : Bytes → Read Default
 default_of_text txt =
     elim (starts_with (ascii "#I") txt) [
-      | true ↦ record { value = record { sort = implied; value = [] }; rest = drop 8 txt }
+      | true ↦ record { value = record { sort = Implied; value = [] }; rest = drop 8 txt }
       | false ↦
           elim (starts_with (ascii "#R") txt) [
-            | true ↦ record { value = record { sort = required; value = ascii "-" }; rest = drop 9 txt }
-            | false ↦ record { value = record { sort = fixed; value = value_of_raw (front_while no_quote (drop 8 txt)) }; rest = drop 1 (after_while no_quote (drop 8 txt)) }
+            | true ↦ record { value = record { sort = Required; value = ascii "-" }; rest = drop 9 txt }
+            | false ↦ record { value = record { sort = Fixed; value = value_of_raw (front_while no_quote (drop 8 txt)) }; rest = drop 1 (after_while no_quote (drop 8 txt)) }
           ]
     ]
 

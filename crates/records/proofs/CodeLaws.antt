@@ -10,6 +10,7 @@ use lib.Dec.{eqb, leb, ltb, eqb-suc-zero}
 use lib.ListN.{length, take, drop, get_or, drop_of_length-le, get_or-eq_default}
 use lib.Seq.{drop-drop}
 use borrow.Author.Tests.{le-leb, lt-leb, leb-true, leb-false, ne_eqb}
+use Rattle.rules.specs.declared.AttributeSort.{AttributeSort}
 use Rattle.rules.specs.Bytes.{Bytes, all}
 use Rattle.rules.specs.Layout.{name_width, header_size, definition_size, particle_size, attribute_size, row_size}
 use Rattle.rules.specs.WellFormed.{starts_name, in_name, stored_name, is_value, is_fill}
@@ -47,11 +48,6 @@ name_past bs at h = rw (get_or-eq_default bs 0 h)
 pub name_of_lem : (bs rest : Bytes) {a b : Bool} → (length bs ≡ 0 → ⊥) → a ≡ starts_name (get_or bs 0 0) → rest ≡ drop 1 bs → b ≡ all in_name rest → (a && b && leb (length bs) name_width) ≡ stored_name bs
 name_of_lem bs rest h a r b = ap₂ (λ (x y : Bool). x && y && leb (length bs) name_width) a (b ∙ ap (all in_name) r) ∙ sym (name_some bs h)
 
-pub fill_any : (sort : ℕ) (v : Bytes) → (sort ≡ 0 → ⊥) → (sort ≡ 1 → ⊥) → is_fill (sort_of sort) v ≡ true
-fill_any zero v f g = absurd (f refl)
-fill_any (suc zero) v f g = absurd (g refl)
-fill_any (suc (suc k)) v f g = refl
-
 pub filled_of : (bs : Bytes) (at l width : ℕ) (rest field tail : Bytes) {b : Bool} → l ≤ width → rest ≡ drop at bs → field ≡ take width rest
     → tail ≡ drop l field → b ≡ zeros tail → b ≡ filled bs at l width
 filled_of bs at l width rest field tail h r f t z = z ∙ ap zeros (t ∙ ap (drop l) (f ∙ ap (take width) r)) ∙ sym (filled_narrow bs at l width h)
@@ -73,12 +69,12 @@ pub definition_of_lem : (bs : Bytes) (kind particles : ℕ) {a : Bool} → kind 
 unfolding definition_fits
 definition_of_lem bs kind particles k p a = λ i. a i && (leb (k i) 2 && (eqb (k i) 2 || eqb (p i) 0))
 
-pub attribute_of_lem : (w n : ℕ) (bs : Bytes) (owner sort l : ℕ) (value : Bytes) {a b c : Bool} → owner ≡ (read_attribute bs).owner → sort ≡ (read_attribute bs).sort
-    → l ≡ attribute_length bs → value ≡ (read_attribute bs).value
-    → a ≡ name_fits bs attribute_name_at → b ≡ value_fits w bs attribute_value_at l → c ≡ is_fill (sort_of sort) value → (ltb owner n && (a && (leb sort 2 && (b && c)))) ≡ attribute_fits w n bs
+pub attribute_of_lem : (w n : ℕ) (bs : Bytes) (owner sort l : ℕ) (value : Bytes) (read : AttributeSort) {a b c : Bool}
+    → owner ≡ (read_attribute bs).owner → sort ≡ (read_attribute bs).sort → l ≡ attribute_length bs → value ≡ (read_attribute bs).value → read ≡ sort_of sort
+    → a ≡ name_fits bs attribute_name_at → b ≡ value_fits w bs attribute_value_at l → c ≡ is_fill read value → (ltb owner n && (a && (leb sort 2 && (b && c)))) ≡ attribute_fits w n bs
 unfolding attribute_fits
-attribute_of_lem w n bs owner sort l value o s u v a b c =
-    (λ i. ltb owner n && (a i && (leb sort 2 && (b i && c i))))
+attribute_of_lem w n bs owner sort l value read o s u v r a b c =
+    (λ i. ltb owner n && (a i && (leb sort 2 && (b i && (c ∙ ap (λ (k : AttributeSort). is_fill k value) r) i))))
     ∙ (λ i. ltb (o i) n && (name_fits bs attribute_name_at && (leb (s i) 2 && (value_fits w bs attribute_value_at (u i) && is_fill (sort_of (s i)) (v i)))))
 
 -- ---- a row's tests, in the code's order: by its sort, its value's length and its index; whether its value fits, and

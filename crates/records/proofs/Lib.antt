@@ -1,4 +1,3 @@
 pub mod RecordLaws
 pub mod StringLaws
 pub mod CodeLaws
-pub mod SortLaws

@@ -11,9 +11,11 @@ use lib.Dec.{eqb, leb, lit<}
 use lib.ListN.{length, drop, length-drop, length-map}
 use lib.Seq.{drop-drop, drop_at}
 use borrow.Author.Tests.{leb-true, eqb-true, le-leb, eq-eqb}
+use Rattle.rules.specs.declared.AttributeSort.{AttributeSort}
+use Rattle.rules.specs.declared.AttributeSort.TheVariants.{Implied, Required, Fixed}
 use Rattle.rules.specs.Bytes.{Bytes, is_none}
 use Rattle.rules.specs.Preorder.{Deep, preorder}
-use Rattle.rules.specs.Store.{Content, empty, pcdata, complex, Attribute, AttributeSort, implied, required, fixed, Form, RowSort, element, attribute, text, Row, Forest, bare, tree, Store}
+use Rattle.rules.specs.Store.{Content, empty, pcdata, complex, Attribute, Form, RowSort, element, attribute, text, Row, Forest, bare, tree, Store}
 use Rattle.rules.specs.Layout.{value_width, le, FlatRow, FlatStore, header_size, definition_size, particle_size, attribute_size, row_size, definition_bytes}
 use Rattle.rules.specs.Layout.{particle_bytes, attribute_bytes, row_bytes, each, entry, flat_bytes, kind_code, sort_code, row_code, content_particles, flat_definition}
 use Rattle.rules.specs.Layout.{own_attributes, all_attributes, row_index, indexed, flat, encode}
@@ -369,14 +371,14 @@ store_definitions w form (d ∷ fs) a g =
     (record { name = a.0.name; kind = kind_few d.content; none = kind_none form d.content; particles = g.0.particles }, store_definitions w form fs a.1 g.1)
 
 pub sort_few : (s : AttributeSort) → sort_code s ≤ 2
-sort_few implied = omega arith
-sort_few required = omega arith
-sort_few fixed = omega arith
+sort_few Implied = omega arith
+sort_few Required = omega arith
+sort_few Fixed = omega arith
 
 fill_code : (s : AttributeSort) (v : Bytes) → is_fill s v ≡ true → is_fill (sort_of (sort_code s)) v ≡ true
-fill_code implied v h = h
-fill_code required v h = h
-fill_code fixed v h = h
+fill_code Implied v h = h
+fill_code Required v h = h
+fill_code Fixed v h = h
 
 own_attributes_lem : (w n o : ℕ) (cs : List Attribute) → o < n → Every (λ a. is_attribute_of w a ≡ true) cs → Every (FittingAttribute w n) (own_attributes o cs)
 own_attributes_lem w n o [] l a = tt

@@ -5,12 +5,13 @@ ghost use Rattle.std.specs.Prelude.{◌≡◌, Bool, take, drop};
 ghost use Rattle.std.specs.Fn.{FnReturnsAt};
 ghost use Rattle.rules.specs.Bytes.{Bytes};
 ghost use Rattle.rules.specs.Layout.{definition_size, attribute_size};
-ghost use Rattle.rules.specs.Decode.{sort_of};
 ghost use Rattle.rules.specs.WellFormed.{stored_name, given_name, is_value, is_fill};
 ghost use Rattle.rules.specs.Conforming.{must_be_present, allows};
 ghost use Rattle.rules.specs.Filling.{created_value};
 ghost use Rattle.layout.specs.Bodies.{Width};
 ghost use Rattle.records.specs.Records.{filled, name_fits, value_fits, definition_fits, attribute_fits, row_fits, each_fits};
+
+use rules::AttributeSort;
 
 // ---- names and values
 
@@ -41,17 +42,15 @@ pub fn is_value(w: usize, s: &[u8]) -> bool
     (s.len() <= w) & byte_check::all_printable(s)
 }
 
-// Whether a value may stand in an attribute of a sort: none if IMPLIED (0), one if REQUIRED (1).
-fn is_fill(sort: u8, value: &[u8]) -> bool
-    ensures { result ≡ is_fill (sort_of sort) value.now }
+// Whether a value may stand in an attribute of a sort.
+fn is_fill(sort: AttributeSort, value: &[u8]) -> bool
+    ensures { result ≡ is_fill sort value.now }
 {
-    if sort == 0 {
-        return value.len() == 0;
+    match sort {
+        AttributeSort::Implied => value.len() == 0,
+        AttributeSort::Required => value.len() != 0,
+        AttributeSort::Fixed => true,
     }
-    if sort == 1 {
-        return value.len() != 0;
-    }
-    true
 }
 
 // ---- fields
@@ -109,7 +108,8 @@ pub fn attribute_fits(w: usize, rec: &[u8], n: usize) -> bool
     (owner < n)
         & (name_fits(rec, layout::ATTRIBUTE_NAME)
             & ((sort <= 2)
-                & (value_fits(w, rec, layout::ATTRIBUTE_VALUE, used) & is_fill(sort, value))))
+                & (value_fits(w, rec, layout::ATTRIBUTE_VALUE, used)
+                    & is_fill(AttributeSort::from(sort), value))))
 }
 
 /// Whether a record is a row's, apart from its depth.
@@ -181,25 +181,26 @@ pub fn attributes_fit(w: usize, body: &[u8], count: usize, n: usize) -> bool
 // ---- what an attribute's sort says
 
 /// Whether a row of an attribute of this sort must be there, in a store of this version.
-pub fn must_be_present(version: usize, sort: u8) -> bool
-    ensures { result ≡ must_be_present version (sort_of sort) }
+pub fn must_be_present(version: usize, sort: AttributeSort) -> bool
+    ensures { result ≡ must_be_present version sort }
 {
-    sort == 1
+    sort == AttributeSort::Required
 }
 
 /// Whether a value is right for an attribute of this sort and this fill.
-pub fn value_allowed(sort: u8, fill: &[u8], value: &[u8]) -> bool
-    ensures { result ≡ allows (sort_of sort) fill.now value.now }
+pub fn value_allowed(sort: AttributeSort, fill: &[u8], value: &[u8]) -> bool
+    ensures { result ≡ allows sort fill.now value.now }
 {
-    if sort < 2 {
-        return true;
+    match sort {
+        AttributeSort::Implied => true,
+        AttributeSort::Required => true,
+        AttributeSort::Fixed => codec::equal(fill, value),
     }
-    codec::equal(fill, value)
 }
 
 /// The value of a created row of an attribute of this sort and this fill.
-pub fn created_value(sort: u8, fill: &[u8]) -> &[u8]
-    ensures { result.now ≡ created_value (sort_of sort) fill.now }
+pub fn created_value(sort: AttributeSort, fill: &[u8]) -> &[u8]
+    ensures { result.now ≡ created_value sort fill.now }
 {
     fill
 }

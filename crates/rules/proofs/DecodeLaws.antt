@@ -16,10 +16,12 @@ use borrow.Author.Tests.{eq-eqb, ne_eqb, eqb-true, leb-true, ltb-true}
 use Rattle.rules.specs.declared.Quantifier.{Quantifier}
 use Rattle.rules.specs.declared.Quantifier.TheVariants.{None, Qmark, Star, Plus}
 use Rattle.rules.specs.declared.GroupKind.TheVariants.{Sequence, Choice}
+use Rattle.rules.specs.declared.AttributeSort.{AttributeSort}
+use Rattle.rules.specs.declared.AttributeSort.TheVariants.{Implied, Required, Fixed}
 use Rattle.rules.specs.Bytes.{Bytes, same, all, any, between, bytes, numbers, is_none, and_left, and_right, same_eq, same_refl}
 use Rattle.rules.specs.Model.{Members, done, el, group, names, distinct, full}
 use Rattle.rules.specs.Automaton.{accepts}
-use Rattle.rules.specs.Store.{Content, empty, pcdata, complex, AttributeSort, implied, required, fixed, Attribute, Definition, Form, RowSort, element}
+use Rattle.rules.specs.Store.{Content, empty, pcdata, complex, Attribute, Definition, Form, RowSort, element}
 use Rattle.rules.specs.Store.{attribute, text, Row, Forest, bare, tree, Store, model_of, members, heads}
 use Rattle.rules.specs.Preorder.{Deep, preorder, build}
 use Rattle.rules.specs.Layout.{base_version, value_width, name_width, FlatParticle, FlatAttribute, header_size, definition_size, particle_size, attribute_size}
@@ -109,9 +111,9 @@ read_rows_lem form owner (tree r b t) h = λ i. tree (row i) (read_rows_lem form
 
 -- ---- attributes by owner
 pub sort_code_lem : (s : AttributeSort) → sort_of (sort_code s) ≡ s
-sort_code_lem implied = refl
-sort_code_lem required = refl
-sort_code_lem fixed = refl
+sort_code_lem Implied = refl
+sort_code_lem Required = refl
+sort_code_lem Fixed = refl
 
 own_same : (o : ℕ) (xs : List Attribute) (ys : List FlatAttribute) → of_owner o (own_attributes o xs ++ ys) ≡ xs ++ of_owner o ys
 own_same o [] ys = refl

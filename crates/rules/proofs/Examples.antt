@@ -7,11 +7,12 @@ use mathlib.Core.List.{List, [], ◌∷◌}
 use lib.ListN.{length}
 use Rattle.rules.specs.declared.Quantifier.TheVariants.{None, Qmark, Star, Plus}
 use Rattle.rules.specs.declared.GroupKind.TheVariants.{Sequence, Choice}
+use Rattle.rules.specs.declared.AttributeSort.TheVariants.{Implied, Required, Fixed}
 use Rattle.rules.specs.Bytes.{Bytes, same, ascii, concat, bytes, numbers}
 use Rattle.rules.specs.Model.{Members, done, el, group, names, nothing, filling, member, full, distinct}
 use Rattle.rules.specs.Language.{Conforms}
 use Rattle.rules.specs.Automaton.{accepts, continues, facts}
-use Rattle.rules.specs.Store.{Content, empty, pcdata, complex, implied, required, fixed, Definition, Form, element, attribute, text, Row, Forest, bare, tree, Store, members}
+use Rattle.rules.specs.Store.{Content, empty, pcdata, complex, Definition, Form, element, attribute, text, Row, Forest, bare, tree, Store, members}
 use Rattle.rules.specs.Decode.{confirm}
 use Rattle.rules.specs.Layout.{base_version, value_width, flat, encode, each, row_bytes}
 use Rattle.rules.specs.WellFormed.{reaches, good_definition, well_formed}
@@ -230,9 +231,9 @@ printable =
             name = ascii "r";
             content = complex (group Star Choice (el None a (el Plus b done)) (el Qmark c done));
             attributes =
-                record { name = ascii "i"; sort = implied; value = [] }
-                ∷ record { name = ascii "q"; sort = required; value = ascii "0" }
-                ∷ record { name = ascii "f"; sort = fixed; value = ascii "\"<&>" }
+                record { name = ascii "i"; sort = Implied; value = [] }
+                ∷ record { name = ascii "q"; sort = Required; value = ascii "0" }
+                ∷ record { name = ascii "f"; sort = Fixed; value = ascii "\"<&>" }
                 ∷ [];
           }
           ∷ defined "a" empty
@@ -332,7 +333,7 @@ reserving =
     record {
       version = base_version;
       next = 2;
-      form = record { name = ascii "xmlTime"; content = empty; attributes = record { name = ascii "XmL"; sort = implied; value = [] } ∷ [] } ∷ [];
+      form = record { name = ascii "xmlTime"; content = empty; attributes = record { name = ascii "XmL"; sort = Implied; value = [] } ∷ [] } ∷ [];
       docs = tree (record { serial = 1; sort = element; name = ascii "xmlTime"; value = [] }) bare bare;
     }
 

@@ -9,10 +9,12 @@ use mathlib.Core.List.Memᴰ
 use mathlib.Core.List.{List, [], ◌∷◌, ◌++◌, map, Memᴰ}
 use Rattle.rules.specs.declared.GroupKind.{GroupKind}
 use Rattle.rules.specs.declared.GroupKind.TheVariants.{Sequence, Choice}
+use Rattle.rules.specs.declared.AttributeSort.{AttributeSort}
+use Rattle.rules.specs.declared.AttributeSort.TheVariants.{Implied, Required, Fixed}
 use Rattle.rules.specs.Bytes.{Bytes, bytes, same_refl, all}
 use Rattle.rules.specs.Model.{Members, done, el, group, names, Distinct, Full, skips, nothing, unless, beside, filling}
 use Rattle.rules.specs.Automaton.{accepts}
-use Rattle.rules.specs.Store.{Content, empty, pcdata, complex, AttributeSort, implied, required, fixed, Attribute, Definition, Form, text, Row, Forest, bare, tree, model_of, members, ◌⧺◌, heads}
+use Rattle.rules.specs.Store.{Content, empty, pcdata, complex, Attribute, Definition, Form, text, Row, Forest, bare, tree, model_of, members, ◌⧺◌, heads}
 use Rattle.rules.specs.WellFormed.{is_value, lookup, attribute_name}
 use Rattle.rules.specs.Conforming.{name_of, EveryRow, is_element, every_row, must_be_present, allows, strip, fits, fits_stripped, fits_definition, fits_row, conforming}
 use Rattle.rules.specs.Filling.{created_value, attribute_row, fill_attributes, fill_each, fill_content, element_row, fill_within}
@@ -188,9 +190,9 @@ fill_absent version a table f q = rw (q, fill_attributes)
 
 -- a created row's value is right for its attribute
 pub created_allows : (s : AttributeSort) (fill : Bytes) → allows s fill (created_value s fill) ≡ true
-created_allows implied fill = refl
-created_allows required fill = refl
-created_allows fixed fill = cc (same_refl fill)
+created_allows Implied fill = refl
+created_allows Required fill = refl
+created_allows Fixed fill = cc (same_refl fill)
 
 begins_fill : (version : ℕ) (n : Bytes) (table : List Attribute) (f : Forest Row) → (Memᴰ n (map attribute_name table) → ⊥) → head_attribute (heads f) ≡ false
     → begins n (heads (fill_attributes version table f)) ≡ false

@@ -43,3 +43,4 @@ pub mod DecodeLaws
 pub mod LowestLaws
 pub mod SmallBytes
 pub mod PlanLaws
+pub mod RowSortLaws

@@ -14,11 +14,13 @@ use Rattle.rules.specs.declared.Quantifier.{Quantifier}
 use Rattle.rules.specs.declared.Quantifier.TheVariants.{None, Qmark, Star, Plus}
 use Rattle.rules.specs.declared.GroupKind.{GroupKind}
 use Rattle.rules.specs.declared.GroupKind.TheVariants.{Sequence, Choice}
+use Rattle.rules.specs.declared.AttributeSort.{AttributeSort}
+use Rattle.rules.specs.declared.AttributeSort.TheVariants.{Implied, Required, Fixed}
 use Rattle.rules.specs.Bytes.{Bytes, same, all, between, bytes, is_none, and_left, and_right}
 use Rattle.rules.specs.Model.{Members, done, el, group, names}
 use Rattle.rules.specs.Language.{Conforms}
 use Rattle.rules.specs.Automaton.{accepts}
-use Rattle.rules.specs.Store.{Content, empty, pcdata, complex, AttributeSort, implied, required, fixed, Attribute, Definition, Form, RowSort, element}
+use Rattle.rules.specs.Store.{Content, empty, pcdata, complex, Attribute, Definition, Form, RowSort, element}
 use Rattle.rules.specs.Store.{attribute, text, Row, Forest, bare, tree, Store, model_of, members, heads}
 use Rattle.rules.specs.Preorder.{Deep, preorder}
 use Rattle.rules.specs.Layout.{value_width, name_width, FlatParticle, quantifier_code, kind_code, sort_code, row_code, particles, content_particles}
@@ -87,9 +89,9 @@ group_small Sequence = lit< tt
 group_small Choice = lit< tt
 
 sort_small : (s : AttributeSort) → sort_code s < 256
-sort_small implied = lit< tt
-sort_small required = lit< tt
-sort_small fixed = lit< tt
+sort_small Implied = lit< tt
+sort_small Required = lit< tt
+sort_small Fixed = lit< tt
 
 row_small : (s : RowSort) → row_code s < 256
 row_small element = lit< tt

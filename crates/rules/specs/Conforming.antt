@@ -2,10 +2,12 @@
 use Rattle.std.specs.Prelude.{ℕ, ◌≡◌, ◌⊎◌, Bool, true, false, ◌&&◌}
 use Rattle.std.proofs.Math.Option.{Option, none, some}
 use mathlib.Core.List.{List, [], ◌∷◌, ◌++◌, map, Memᴰ}
+use Rattle.rules.specs.declared.AttributeSort.{AttributeSort}
+use Rattle.rules.specs.declared.AttributeSort.TheVariants.{Implied, Required, Fixed}
 use Rattle.rules.specs.Bytes.{Bytes, same, bytes, all, is_none}
 use Rattle.rules.specs.Language.{Conforms}
 use Rattle.rules.specs.Automaton.{accepts}
-use Rattle.rules.specs.Store.{Content, empty, pcdata, complex, AttributeSort, implied, required, fixed, Attribute, Definition, Form, RowSort, element}
+use Rattle.rules.specs.Store.{Content, empty, pcdata, complex, Attribute, Definition, Form, RowSort, element}
 use Rattle.rules.specs.Store.{attribute, text, Row, Forest, bare, tree, heads}
 use Rattle.rules.specs.WellFormed.{lookup, attribute_name}
 
@@ -29,15 +31,15 @@ InOrder (x ∷ xs) (y ∷ table) = ((x ≡ y) × InOrder xs table) ⊎ InOrder (
 
 -- 'REQUIRED present': must a row of this attribute be there, in a store of this version
 abbrev pub must_be_present : ℕ → AttributeSort → Bool
-must_be_present version implied = false
-must_be_present version required = true
-must_be_present version fixed = false
+must_be_present version Implied = false
+must_be_present version Required = true
+must_be_present version Fixed = false
 
 -- 'FIXED equal if present': is a value right for an attribute of this sort, with this fill
 abbrev pub allows : AttributeSort → Bytes → Bytes → Bool
-allows implied fill v = true
-allows required fill v = true
-allows fixed fill v = same fill v
+allows Implied fill v = true
+allows Required fill v = true
+allows Fixed fill v = same fill v
 
 -- 'attribute rows are the owner's, each at most once, REQUIRED present, FIXED equal if present', in table order
 pub record AttributeRows (version : ℕ) (table : List Attribute) (rows : List Row) : Type 0 where

@@ -5,9 +5,11 @@ use Rattle.rules.specs.declared.Quantifier.{Quantifier}
 use Rattle.rules.specs.declared.Quantifier.TheVariants.{None, Qmark, Star, Plus}
 use Rattle.rules.specs.declared.GroupKind.{GroupKind}
 use Rattle.rules.specs.declared.GroupKind.TheVariants.{Sequence, Choice}
+use Rattle.rules.specs.declared.AttributeSort.{AttributeSort}
+use Rattle.rules.specs.declared.AttributeSort.TheVariants.{Implied, Required, Fixed}
 use Rattle.rules.specs.Bytes.{Bytes, same}
 use Rattle.rules.specs.Model.{Members, done, el, group}
-use Rattle.rules.specs.Store.{Content, empty, pcdata, complex, AttributeSort, implied, required, fixed, Attribute, Form, RowSort, element}
+use Rattle.rules.specs.Store.{Content, empty, pcdata, complex, Attribute, Form, RowSort, element}
 use Rattle.rules.specs.Store.{attribute, text, Row, Forest, bare, tree, Store}
 use Rattle.rules.specs.Preorder.{Deep, build}
 use Rattle.rules.specs.Layout.{value_width, header_size, definition_size, particle_size, attribute_size, row_size, FlatDefinition, FlatParticle, FlatAttribute, FlatRow, FlatStore, encode}
@@ -100,9 +102,9 @@ content_of (suc zero) ms = pcdata
 content_of (suc (suc k)) ms = complex ms
 
 abbrev pub sort_of : ℕ → AttributeSort
-sort_of zero = implied
-sort_of (suc zero) = required
-sort_of (suc (suc k)) = fixed
+sort_of zero = Implied
+sort_of (suc zero) = Required
+sort_of (suc (suc k)) = Fixed
 
 abbrev pub row_sort_of : ℕ → RowSort
 row_sort_of zero = text

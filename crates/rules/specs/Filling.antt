@@ -2,9 +2,10 @@
 use Rattle.std.specs.Prelude.{ℕ, zero, suc, true, false, List, [], ◌∷◌, length}
 use Rattle.std.proofs.Math.Option.{none, some}
 use Rattle.rules.specs.declared.GroupKind.TheVariants.{Sequence}
+use Rattle.rules.specs.declared.AttributeSort.{AttributeSort}
 use Rattle.rules.specs.Bytes.{Bytes}
 use Rattle.rules.specs.Model.{filling}
-use Rattle.rules.specs.Store.{Content, empty, pcdata, complex, AttributeSort, Attribute, Form, element, attribute, text, Row, Forest, bare, tree, ◌⧺◌}
+use Rattle.rules.specs.Store.{Content, empty, pcdata, complex, Attribute, Form, element, attribute, text, Row, Forest, bare, tree, ◌⧺◌}
 use Rattle.rules.specs.WellFormed.{lookup}
 use Rattle.rules.specs.Conforming.{must_be_present}
 

@@ -4,9 +4,11 @@ use Rattle.rules.specs.declared.Quantifier.{Quantifier}
 use Rattle.rules.specs.declared.Quantifier.TheVariants.{None, Qmark, Star, Plus}
 use Rattle.rules.specs.declared.GroupKind.{GroupKind}
 use Rattle.rules.specs.declared.GroupKind.TheVariants.{Sequence, Choice}
+use Rattle.rules.specs.declared.AttributeSort.{AttributeSort}
+use Rattle.rules.specs.declared.AttributeSort.TheVariants.{Implied, Required, Fixed}
 use Rattle.rules.specs.Bytes.{Bytes, same}
 use Rattle.rules.specs.Model.{Members, done, el, group}
-use Rattle.rules.specs.Store.{Content, empty, pcdata, complex, AttributeSort, implied, required, fixed, Attribute, Definition, Form, RowSort, element}
+use Rattle.rules.specs.Store.{Content, empty, pcdata, complex, Attribute, Definition, Form, RowSort, element}
 use Rattle.rules.specs.Store.{attribute, text, Row, Forest, bare, tree, Store}
 use Rattle.rules.specs.Preorder.{Deep, preorder}
 
@@ -149,9 +151,9 @@ kind_code pcdata = 1
 kind_code (complex ms) = 2
 
 abbrev pub sort_code : AttributeSort → ℕ
-sort_code implied = 0
-sort_code required = 1
-sort_code fixed = 2
+sort_code Implied = 0
+sort_code Required = 1
+sort_code Fixed = 2
 
 abbrev pub row_code : RowSort → ℕ
 row_code element = 1

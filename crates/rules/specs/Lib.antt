@@ -24,3 +24,4 @@ pub mod Print
 pub mod Book
 pub mod Run
 pub mod MadeTakenGiven
+pub mod RowSorts

@@ -4,9 +4,10 @@ use Rattle.rules.specs.declared.Quantifier.{Quantifier}
 use Rattle.rules.specs.declared.Quantifier.TheVariants.{None, Qmark, Star, Plus}
 use Rattle.rules.specs.declared.GroupKind.{GroupKind}
 use Rattle.rules.specs.declared.GroupKind.TheVariants.{Sequence, Choice}
+use Rattle.rules.specs.declared.AttributeSort.TheVariants.{Implied, Required, Fixed}
 use Rattle.rules.specs.Bytes.{Bytes, ascii, concat}
 use Rattle.rules.specs.Model.{Members, done, el, group}
-use Rattle.rules.specs.Store.{Content, empty, pcdata, complex, implied, required, fixed, Attribute, Definition, Form, element, attribute, text, Row, Forest, bare, tree, Store}
+use Rattle.rules.specs.Store.{Content, empty, pcdata, complex, Attribute, Definition, Form, element, attribute, text, Row, Forest, bare, tree, Store}
 use Rattle.rules.specs.Passing.{read_store}
 use Rattle.rules.specs.Outcome.{Outcome, unless_refused, on_store}
 
@@ -59,9 +60,9 @@ definition_line d = ascii "<!ELEMENT " ∷ d.name ∷ ascii " " ∷ content_toke
 abbrev pub default_tokens : Attribute → Tokens
 default_tokens a =
     elim a.sort [
-      | implied ↦ ascii "#IMPLIED" ∷ []
-      | required ↦ ascii "#REQUIRED" ∷ []
-      | fixed ↦ ascii "#FIXED \"" ∷ escape a.value ∷ ascii "\"" ∷ []
+      | Implied ↦ ascii "#IMPLIED" ∷ []
+      | Required ↦ ascii "#REQUIRED" ∷ []
+      | Fixed ↦ ascii "#FIXED \"" ∷ escape a.value ∷ ascii "\"" ∷ []
     ]
 
 abbrev pub attribute_line : Bytes → Attribute → Tokens

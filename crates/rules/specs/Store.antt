@@ -1,6 +1,7 @@
 -- 'The store': what it holds. Members and rows carry names where the
 -- bytes have indices; Layout turns names into indices.
 use Rattle.std.specs.Prelude.{ℕ, List, [], ◌∷◌}
+use Rattle.rules.specs.declared.AttributeSort.{AttributeSort}
 use Rattle.rules.specs.Bytes.{Bytes}
 use Rattle.rules.specs.Model.{Members, done}
 
@@ -8,9 +9,6 @@ use Rattle.rules.specs.Model.{Members, done}
 pub data Content : Type 0 where
   empty pcdata : Content
   complex : Members Bytes → Content
-
-pub data AttributeSort : Type 0 where
-  implied required fixed : AttributeSort
 
 -- a REQUIRED attribute's value is the fill for created rows
 pub record Attribute : Type 0 where

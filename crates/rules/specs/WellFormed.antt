@@ -2,9 +2,11 @@
 use Rattle.std.specs.Prelude.{ℕ, zero, suc, ◌≡◌, Bool, true, false, ◌&&◌, ◌||◌, not, eqb, leb, length}
 use Rattle.std.proofs.Math.Option.{Option, none, some}
 use mathlib.Core.List.{List, [], ◌∷◌, map, Memᴰ}
+use Rattle.rules.specs.declared.AttributeSort.{AttributeSort}
+use Rattle.rules.specs.declared.AttributeSort.TheVariants.{Implied, Required, Fixed}
 use Rattle.rules.specs.Bytes.{Bytes, same, bytes, all, any, between, is_none}
 use Rattle.rules.specs.Model.{names, Distinct, Full, distinct, full}
-use Rattle.rules.specs.Store.{AttributeSort, implied, required, fixed, Attribute, Definition, Form, members}
+use Rattle.rules.specs.Store.{Attribute, Definition, Form, members}
 use Rattle.rules.specs.Preorder.{Deep}
 use Rattle.rules.specs.Layout.{name_width, FlatParticle, FlatStore}
 
@@ -101,9 +103,9 @@ none_reserved form = all unreserved form
 -- ---- well-formed
 -- a REQUIRED fill is not empty, an IMPLIED value is
 abbrev pub is_fill : AttributeSort → Bytes → Bool
-is_fill implied v = is_none v
-is_fill required v = not (is_none v)
-is_fill fixed v = true
+is_fill Implied v = is_none v
+is_fill Required v = not (is_none v)
+is_fill Fixed v = true
 
 abbrev pub is_attribute_of : ℕ → Attribute → Bool
 is_attribute_of w a = stored_name a.name && (is_value w a.value && is_fill a.sort a.value)

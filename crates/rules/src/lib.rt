@@ -2,8 +2,9 @@
 #![tactic(auto)]
 
 ghost use Rattle.std.specs.Prelude.{◌≡◌};
-ghost use Rattle.rules.specs.Layout.{quantifier_code, group_code};
-ghost use Rattle.rules.specs.Decode.{quantifier_of, group_of};
+ghost use Rattle.rules.specs.Layout.{quantifier_code, group_code, sort_code};
+ghost use Rattle.rules.specs.Decode.{quantifier_of, group_of, sort_of};
+ghost use Rattle.rules.specs.RowSorts.{row_number};
 ghost use Rattle.rules.specs.Given.{refusal_number};
 
 /// How often a particle may stand.
@@ -64,6 +65,54 @@ impl From<GroupKind> for u8 {
     /// The code in the store.
     fn from(kind: GroupKind) -> u8 {
         kind as u8
+    }
+}
+
+/// The sort of an attribute: IMPLIED, its rows may be left out; REQUIRED, each element has one; FIXED, its rows have the
+/// attribute's own value.
+#[derive(Clone, Copy, Debug, PartialEq, Eq)]
+pub enum AttributeSort {
+    Implied,
+    Required,
+    Fixed,
+}
+
+impl From<u8> for AttributeSort {
+    ghost from_gives = { λ code sort. sort ≡ sort_of code };
+
+    /// The sort whose code this is in the store; every code above 1 is read as that of FIXED.
+    fn from(code: u8) -> AttributeSort {
+        match code {
+            0 => AttributeSort::Implied,
+            1 => AttributeSort::Required,
+            _ => AttributeSort::Fixed,
+        }
+    }
+}
+
+impl From<AttributeSort> for u8 {
+    ghost from_gives = { λ sort code. code ≡ sort_code sort };
+
+    /// The code in the store.
+    fn from(sort: AttributeSort) -> u8 {
+        sort as u8
+    }
+}
+
+/// The sort of a row.
+#[derive(Clone, Copy, Debug, PartialEq, Eq)]
+pub enum RowSort {
+    Element = 1,
+    Attribute = 2,
+    Text = 3,
+}
+
+impl From<RowSort> for u8 {
+    ghost from_gives = { λ sort code. code ≡ row_number sort };
+
+    /// The code in the store.
+    fn from(sort: RowSort) -> u8 {
+        sort as u8
     }
 }
 

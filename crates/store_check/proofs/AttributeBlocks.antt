@@ -8,9 +8,10 @@ use mathlib.Core.Logic.{◌⊎◌, inl, inr, ⊎_elim}
 use mathlib.Core.List.Memᴰ
 use mathlib.Core.List.{List, [], ◌∷◌, ◌++◌, map, Memᴰ}
 use lib.ListN.{length, length-append, length-map}
+use Rattle.rules.specs.declared.AttributeSort.{AttributeSort}
 use Rattle.rules.specs.Bytes.{Bytes, bytes, same_refl}
 use Rattle.rules.specs.Model.{Distinct}
-use Rattle.rules.specs.Store.{AttributeSort, Attribute, Form}
+use Rattle.rules.specs.Store.{Attribute, Form}
 use Rattle.rules.specs.Layout.{FlatAttribute, index_in, attribute_index, own_attributes, all_attributes}
 use Rattle.rules.specs.Decode.{name_at, sort_of, flat_attribute_name}
 use Rattle.rules.specs.WellFormed.{attribute_name}

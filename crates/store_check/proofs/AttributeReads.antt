@@ -10,9 +10,10 @@ use mathlib.Core.List.{List, [], ◌∷◌, ◌++◌, map, Memᴰ}
 use lib.Dec.{eqb, leb}
 use lib.ListN.{length, drop}
 use borrow.Author.Tests.{eqb-true, eqb-false, leb-true, le-leb, eq-eqb, ne_eqb}
+use Rattle.rules.specs.declared.AttributeSort.{AttributeSort}
 use Rattle.rules.specs.Bytes.{Bytes, same, same_eq, same_refl, any}
 use Rattle.rules.specs.Model.{Distinct}
-use Rattle.rules.specs.Store.{AttributeSort, Attribute, Form}
+use Rattle.rules.specs.Store.{Attribute, Form}
 use Rattle.rules.specs.Preorder.{Deep}
 use Rattle.rules.specs.Layout.{FlatDefinition, FlatParticle, FlatAttribute, sort_code, own_attributes, all_attributes}
 use Rattle.rules.specs.Decode.{sort_of, of_owner, read_form}

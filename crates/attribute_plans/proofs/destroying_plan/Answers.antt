@@ -3,7 +3,6 @@
 use mathlib.Core.Path.{ap, ◌∙◌}
 use Prim.Native.Nat.{ℕ}
 use Rattle.plans.specs.AttributeCalls.{destroy_attribute_plan}
-use borrow.Author.Rules.{rules}
 use Rattle.attribute_plans.proofs.destroying_plan.Goals as goal
 
 pub returns : goal.returns

@@ -3,7 +3,6 @@
 use mathlib.Core.Path.{refl}
 use native.Mathlib.Omega.{arith}
 use Rattle.attribute_form.proofs.CountLaws.{owner_is}
-use borrow.Author.Rules.{rules}
 use Rattle.attribute_plans.proofs.owner_of.Goals as goal
 
 pub attribute_owner_at-requires : goal.attribute_owner_at-requires

@@ -5,7 +5,7 @@ use mathlib.Core.Path.{ap}
 use mathlib.Core.Bool.{not}
 use native.Mathlib.Omega.{arith}
 use Rattle.store_check.proofs.StoreFacts.{whole, bad_text_lem, fine_text, past_definitions, within_definitions}
-use Rattle.attribute_refusals.proofs.AttributeLaws.{add_2, add_3, add_4, add_5, add_6, add_12, add_0}
+use Rattle.attribute_refusals.proofs.AttributeLaws.{add_2, add_3, add_4, add_5, add_6, add_12, add_0, default_as}
 use Rattle.rules.proofs.Words.{test_is, not_is}
 use Rattle.attribute_refusals.proofs.add_attribute_refusal.Goals as goal
 
@@ -46,7 +46,7 @@ returns-then-is_wrong_default c =
     (fine_text _ a.value.now c.width_in-w.ensures c.is_value.ensures (ap not c.if-not-is_value.false)) (omega arith)
     (test_is c.has_attribute.ensures c.if-has_attribute.false)
     (within_definitions _ (whole _ c.requires) c.definition_count.ensures _ (omega arith))
-    (test_is c.is_wrong_default.ensures c.if-is_wrong_default.true)).is
+    (test_is (default_as a.sort a.value.now c.from.ensures (omega arith) c.is_wrong_default.ensures) c.if-is_wrong_default.true)).is
 
 pub returns : goal.returns
 returns c =
@@ -55,4 +55,4 @@ returns c =
     (fine_text _ a.value.now c.width_in-w.ensures c.is_value.ensures (ap not c.if-not-is_value.false)) (omega arith)
     (test_is c.has_attribute.ensures c.if-has_attribute.false)
     (within_definitions _ (whole _ c.requires) c.definition_count.ensures _ (omega arith))
-    (test_is c.is_wrong_default.ensures c.if-is_wrong_default.false)).is
+    (test_is (default_as a.sort a.value.now c.from.ensures (omega arith) c.is_wrong_default.ensures) c.if-is_wrong_default.false)).is

@@ -5,7 +5,6 @@ use native.Mathlib.Omega.{arith}
 use Rattle.lookup.specs.Bodies.{bodies_of}
 use Rattle.attribute_form.proofs.FormParts.{before_small, rest_small}
 use Rattle.attribute_writer.proofs.Laws.{dropped_laid}
-use borrow.Author.Rules.{rules}
 use Rattle.attribute_writer.proofs.put_dropped.Goals as goal
 
 pub form_of-form-requires : goal.form_of-form-requires

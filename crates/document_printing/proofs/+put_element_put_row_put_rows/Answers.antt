@@ -6,10 +6,11 @@
 -- the end of the rows ends the text (`walk_stops`, `walk_ends`), and one of this depth is written (`walk_here`, with
 -- `rows_tree` of RowTexts). Three times the number of rows left, plus 1 for `put_row` and 2 for `put_rows`, falls with
 -- each call.
-use mathlib.Core.Path.{◌≡◌, ap, ◌∙◌}
+use mathlib.Core.Path.{◌≡◌, refl, ap, ◌∙◌}
 use mathlib.Core.List.{List}
 use Prim.Native.Nat.{suc, ◌+◌}
 use native.Mathlib.Omega.{arith}
+use Rattle.rules.specs.declared.RowSort.TheVariants.{Element, Attribute}
 use Rattle.rules.specs.Preorder.{build}
 use Rattle.rules.specs.Decode.{read_row, row_sort_of}
 use Rattle.rules.specs.Layout.{row_size}
@@ -17,6 +18,7 @@ use Rattle.layout.specs.Bodies.{record_at}
 use Rattle.lookup.proofs.Laws.{from_none}
 use Rattle.printing_parts.specs.Parts.{names_of, attribute_names_of}
 use Rattle.document_printing.specs.Documents.{stays}
+use Rattle.document_printing.proofs.SortLaws.{is_sort, no_sort}
 use Rattle.document_printing.proofs.RowTexts.{rows_tree, rows_bare}
 use Rattle.printing_parts.proofs.PartLaws.{row_step_lem}
 use Rattle.printing_parts.proofs.WalkLaws.{walk_start, walk_deeper, walk_here, walk_stops, walk_ends, walk_as}
@@ -114,11 +116,11 @@ pub put_row-put_attribute-written-requires : goal.put_row-put_attribute-written-
 put_row-put_attribute-written-requires t c =
     (omega (arith, c.requires.0.room, c.requires.0.few, c.requires.1, c.requires.2), c.attribute_name_of.ensures.short, c.short_value.ensures.short)
 
-pub put_row-returns-then-sort-eq2 : goal.put_row-returns-then-sort-eq2
-put_row-returns-then-sort-eq2 t c =
+pub put_row-returns-then-eq : goal.put_row-returns-then-eq
+put_row-returns-then-eq t c =
     let a = c.args in
     attribute_stepped a.store.now a.rows.now a.w a.count a.i a.depth a.opened _ c.row_at-bytes.ensures c.requires.1
-    c.row_sort-sort.ensures c.row_index-index.ensures c.if-sort-eq2.true c.attribute_name_of.ensures
+    refl c.row_index-index.ensures (is_sort _ Attribute c.row_sort_of-sort.ensures c.eq.ensures c.if-eq.true) c.attribute_name_of.ensures
     c.short_value.ensures c.put_attribute-written.ensures
 
 pub put_row-put_element-requires : goal.put_row-put_element-requires
@@ -145,11 +147,11 @@ put_row-put_element-requires t c = (
   ),
 )
 
-pub put_row-returns-then-sort-eq1 : goal.put_row-returns-then-sort-eq1
-put_row-returns-then-sort-eq1 t c =
+pub put_row-returns-then-eq-2 : goal.put_row-returns-then-eq-2
+put_row-returns-then-eq-2 t c =
     let a = c.args in
     row_element_stepped a.store.now a.rows.now a.w a.count a.i a.depth a.opened _ c.row_at-bytes.ensures c.requires.1
-    c.row_sort-sort.ensures c.row_index-index.ensures c.if-sort-eq1.true c.put_end-ended.ensures c.name_of-name.ensures
+    refl c.row_index-index.ensures (is_sort _ Element c.row_sort_of-sort.ensures c.eq-2.ensures c.if-eq-2.true) c.put_end-ended.ensures c.name_of-name.ensures
     c.put_element.ensures
 
 pub put_row-short_value-requires-2 : goal.put_row-short_value-requires-2
@@ -173,7 +175,8 @@ pub put_row-returns : goal.put_row-returns
 put_row-returns t c =
     let a = c.args in
     text_stepped a.store.now a.rows.now a.w a.count a.i a.depth a.opened _ c.row_at-bytes.ensures c.requires.1
-    c.row_sort-sort.ensures c.row_index-index.ensures c.if-sort-eq1.false c.if-sort-eq2.false c.put_end-ended.ensures
+    refl c.row_index-index.ensures (no_sort _ Element c.row_sort_of-sort.ensures c.eq-2.ensures c.if-eq-2.false)
+    (no_sort _ Attribute c.row_sort_of-sort.ensures c.eq.ensures c.if-eq.false) c.put_end-ended.ensures
     c.short_value-2.ensures c.put_escaped.ensures
 
 pub put_rows-loop-i-init : goal.put_rows-loop-i-init
@@ -218,8 +221,7 @@ put_rows-loop-i-preserved-then-d-depth-2 t c =
     let d : c.row_depth-d.result ≡ (read_row (record_at (row_size a.w) c.loop-i.i a.rows.now)).depth =
     c.row_depth-d.ensures ∙ ap (λ (b : List ℕ). (read_row b).depth) c.row_at-bytes.ensures in
     let q = c.stays_open-opened.ensures
-    ∙ ap (λ (s : ℕ). stays (row_sort_of s) c.loop-i.opened)
-    (c.row_sort.ensures ∙ ap (λ (b : List ℕ). (read_row b).row.sort) c.row_at-bytes.ensures) in
+    ∙ ap (λ (b : List ℕ). stays (row_sort_of (read_row b).row.sort) c.loop-i.opened) c.row_at-bytes.ensures in
     walk_as q
     (walk_here c.loop-i.invariant (read_row (record_at (row_size a.w) c.loop-i.i a.rows.now))
     (stays (row_sort_of (read_row (record_at (row_size a.w) c.loop-i.i a.rows.now)).row.sort) c.loop-i.opened) _

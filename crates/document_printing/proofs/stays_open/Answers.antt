@@ -1,7 +1,9 @@
--- `document_printing::stays_open` meets its contract: for sort 2 the return is the clause of `stays` for attributes,
--- and for any other sort `stays` is false (`stays_not` of RowLaws).
-use Rattle.document_printing.proofs.RowLaws.{stays_not}
+-- `document_printing::stays_open` meets its contract: behind an attribute what is open stays so, and behind any other row
+-- nothing does (`stays_by` of RowLaws).
+use Rattle.rules.specs.declared.RowSort.TheVariants.{Attribute}
+use Rattle.rules.proofs.RowSortLaws.{sort_read}
+use Rattle.document_printing.proofs.RowLaws.{stays_by}
 use Rattle.document_printing.proofs.stays_open.Goals as goal
 
-pub returns-else-sort-eq2 : goal.returns-else-sort-eq2
-returns-else-sort-eq2 c = stays_not c.args.sort c.args.opened c.if-sort-eq2.false
+pub returns : goal.returns
+returns c = stays_by _ c.args.opened (sort_read _ Attribute c.row_sort_of.ensures c.eq.ensures)

@@ -14,7 +14,7 @@ use mathlib.Core.Bool.{false}
 use lib.ListN.{take, drop, length-take, length-drop, length}
 use Rattle.rules.specs.declared.GroupKind.TheVariants.{Sequence}
 use Rattle.row_writer.proofs.WrittenLaws.{written_stop, written_room}
-use Rattle.filling.proofs.FillingLaws.{rest_starts, rest_past, rest_here, rest_on, rest_first, rest_over, rest_ends, member_skips, member_element}
+use Rattle.filling.proofs.FillingLaws.{kind_none, kind_text, kind_model, rest_starts, rest_past, rest_here, rest_on, rest_first, rest_over, rest_ends, member_skips, member_element}
 use Rattle.filling.proofs.FillingLaws.{member_empty, member_nothing_lem, member_group, definition_low, definition_written, below_none, below_text, below_group}
 use Rattle.filling.proofs.FillingLaws.{none_written, one_written, same_written, index_small, rank_particles, rank_part, rank_height}
 use Rattle.filling.proofs.FillingLaws.{part_short, below_nothing, filled_list, filled_choice, kind_choice, kind_list}
@@ -32,7 +32,8 @@ put_below-put_new-requires t c =
 pub put_below-returns-then-needs_no_element : goal.put_below-returns-then-needs_no_element
 put_below-returns-then-needs_no_element t c =
     let a = c.args in
-    below_nothing a.form.now a.text.now a.h a.depth a.i _ c.kind_of-k.ensures _ (omega arith) (omega arith)
+    let model = kind_model _ (sym c.content_kind.ensures ∙ c.in-Complex.is) in
+    below_nothing a.form.now a.text.now a.h a.depth a.i _ refl _ (λ e. omega (arith, model, e)) (λ e. omega (arith, model, e))
     c.model_part-s.ensures (no_element_filled Sequence 0 _ (sym c.needs_no_element.ensures ∙ c.if-needs_no_element.true))
 
 pub put_below-put_group-requires : goal.put_below-put_group-requires
@@ -43,22 +44,21 @@ put_below-put_group-requires t c =
     part_short a.form.now.definitions.now a.form.now.particles.now a.i c.model_part-s.result.now c.model_part-s.ensures in
     (omega (arith, rank_part a.h (length c.model_part-s.result.now) (omega arith)), (omega arith, q))
 
-pub put_below-returns-in-0 : goal.put_below-returns-in-0
-put_below-returns-in-0 t c =
+pub put_below-returns-in-Empty : goal.put_below-returns-in-Empty
+put_below-returns-in-Empty t c =
     let a = c.args in
-    below_none a.form.now a.text.now a.h a.depth a.i _ c.kind_of-k.ensures (omega arith)
+    below_none a.form.now a.text.now a.h a.depth a.i _ refl (kind_none _ (sym c.content_kind.ensures ∙ c.in-Empty.is))
 
-pub put_below-returns-in-1 : goal.put_below-returns-in-1
-put_below-returns-in-1 t c =
-    let put-row = c.put_new in
-    let kind-of = c.kind_of-k in
+pub put_below-returns-in-Pcdata : goal.put_below-returns-in-Pcdata
+put_below-returns-in-Pcdata t c =
     let a = c.args in
-    below_text a.form.now a.text.now a.h a.depth a.i _ kind-of.ensures (omega arith) put-row.ensures
+    below_text a.form.now a.text.now a.h a.depth a.i _ refl (kind_text _ (sym c.content_kind.ensures ∙ c.in-Pcdata.is)) c.put_new.ensures
 
 pub put_below-returns-else-needs_no_element : goal.put_below-returns-else-needs_no_element
 put_below-returns-else-needs_no_element t c =
     let a = c.args in
-    below_group a.form.now a.text.now a.h a.depth a.i _ c.kind_of-k.ensures _ (omega arith) (omega arith)
+    let model = kind_model _ (sym c.content_kind.ensures ∙ c.in-Complex.is) in
+    below_group a.form.now a.text.now a.h a.depth a.i _ refl _ (λ e. omega (arith, model, e)) (λ e. omega (arith, model, e))
     c.model_part-s.ensures c.put_group.ensures
 
 pub put_definition-returns-then-h-eq0 : goal.put_definition-returns-then-h-eq0

@@ -7,5 +7,5 @@ pub returns : goal.returns
 returns c =
     let a = c.args in
     let at-record = c.attribute_at-record in
-    let at-sort = c.attribute_sort-sort in
-    created_told a.w a.attrs.now a.j _ _ _ _ at-record.ensures at-sort.ensures c.attribute_value.ensures c.created_value.ensures
+    let at-sort = c.from-sort in
+    created_told a.w a.attrs.now a.j _ _ _ _ _ at-record.ensures c.attribute_sort.ensures at-sort.ensures c.attribute_value.ensures c.created_value.ensures

@@ -13,28 +13,31 @@ returns-then-not-must_be_present c =
     let a = c.args in
     let found = c.attribute_at-record.ensures in
     let owner = c.attribute_owner-i in
-    let sort = c.attribute_sort in
+    let code = c.attribute_sort in
+    let sort = c.from-sort in
     let present = c.must_be_present in
     need_other a.form.now a.j a.table.now owner.result present.result
-    (λ i. needs_read a.form.now.width _ a.form.now.attributes.now a.j found a.form.now.version i _ _ _ owner.ensures sort.ensures present.ensures) (ap not c.if-not-must_be_present.true)
+    (λ i. needs_read a.form.now.width _ a.form.now.attributes.now a.j found a.form.now.version i _ _ _ _ owner.ensures code.ensures sort.ensures present.ensures) (ap not c.if-not-must_be_present.true)
 
 pub returns-then-i-form : goal.returns-then-i-form
 returns-then-i-form c =
     let a = c.args in
     let found = c.attribute_at-record.ensures in
     let owner = c.attribute_owner-i in
-    let sort = c.attribute_sort in
+    let code = c.attribute_sort in
+    let sort = c.from-sort in
     let present = c.must_be_present in
     need_past a.form.now a.j a.table.now owner.result present.result
-    (λ i. needs_read a.form.now.width _ a.form.now.attributes.now a.j found a.form.now.version i _ _ _ owner.ensures sort.ensures present.ensures) (omega arith)
+    (λ i. needs_read a.form.now.width _ a.form.now.attributes.now a.j found a.form.now.version i _ _ _ _ owner.ensures code.ensures sort.ensures present.ensures) (omega arith)
 
 pub returns : goal.returns
 returns c =
     let a = c.args in
     let found = c.attribute_at-record.ensures in
     let owner = c.attribute_owner-i in
-    let sort = c.attribute_sort in
+    let code = c.attribute_sort in
+    let sort = c.from-sort in
     let present = c.must_be_present in
     need_put a.form.now a.j a.table.now owner.result present.result
-    (λ i. needs_read a.form.now.width _ a.form.now.attributes.now a.j found a.form.now.version i _ _ _ owner.ensures sort.ensures present.ensures)
+    (λ i. needs_read a.form.now.width _ a.form.now.attributes.now a.j found a.form.now.version i _ _ _ _ owner.ensures code.ensures sort.ensures present.ensures)
     (ap not c.if-not-must_be_present.false) (omega arith) c.requires.0.definitions c.requires.2 _ c.with.ensures

@@ -4,6 +4,8 @@
 use Rattle.lookup.proofs.Searching.{searching_start, searching_hit, searching_on, searching_end}
 use Rattle.instance_search.proofs.InstanceLaws.{instance_row_lem, instances_any}
 use Rattle.instance_search.specs.Instances.{instance_row}
+use Rattle.rules.specs.declared.RowSort.TheVariants.{Element}
+use Rattle.rules.proofs.RowSortLaws.{sort_read}
 use Rattle.rules.specs.Layout.{row_size}
 use Rattle.rules.specs.Decode.{read_row}
 use native.Mathlib.Omega.{arith}
@@ -17,19 +19,19 @@ pub row_at-row-requires : goal.row_at-row-requires
 row_at-row-requires c =
     (c.width_in-w.ensures.small, omega (arith, c.loop-i.invariant.0))
 
-pub returns-then-row_sort-row_index : goal.returns-then-row_sort-row_index
-returns-then-row_sort-row_index c =
+pub returns-then-element-row_index : goal.returns-then-element-row_index
+returns-then-element-row_index c =
     let a = c.args in
     instances_any a.store.now a.definition c.width_in-w.ensures c.row_count-count.ensures c.rows_of-rows.ensures
     (searching_hit read_row (row_size c.width_in-w.result) (instance_row a.definition) c.rows_of-rows.result.now _ _ c.loop-i.invariant.1 (omega arith)
-    (instance_row_lem a.definition _ c.row_at-row.ensures c.row_sort.ensures c.row_index.ensures) c.if-row_sort-row_index.true)
+    (instance_row_lem a.definition _ c.row_at-row.ensures (sort_read _ Element c.row_sort_of.ensures c.eq-element.ensures) c.row_index.ensures) c.if-element-row_index.true)
 
 pub loop-i-preserved : goal.loop-i-preserved
 loop-i-preserved c =
     let a = c.args in (
       c.loop-i.invariant.0,
       searching_on read_row (row_size c.width_in-w.result) (instance_row a.definition) c.rows_of-rows.result.now _ _ c.loop-i.invariant.1 (omega arith)
-          (instance_row_lem a.definition _ c.row_at-row.ensures c.row_sort.ensures c.row_index.ensures) c.if-row_sort-row_index.false,
+          (instance_row_lem a.definition _ c.row_at-row.ensures (sort_read _ Element c.row_sort_of.ensures c.eq-element.ensures) c.row_index.ensures) c.if-element-row_index.false,
     )
 
 pub returns : goal.returns

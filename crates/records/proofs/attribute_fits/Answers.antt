@@ -6,5 +6,5 @@ use Rattle.records.proofs.attribute_fits.Goals as goal
 pub returns : goal.returns
 returns c =
     let a = c.args in
-    attribute_of_lem a.w a.n a.rec.now _ _ _ _ c.attribute_owner-owner.ensures c.attribute_sort-sort.ensures c.attribute_length-used.ensures
-    c.attribute_value-value.ensures c.name_fits.ensures c.value_fits.ensures c.is_fill.ensures
+    attribute_of_lem a.w a.n a.rec.now _ _ _ _ _ c.attribute_owner-owner.ensures c.attribute_sort-sort.ensures c.attribute_length-used.ensures
+    c.attribute_value-value.ensures c.from.ensures c.name_fits.ensures c.value_fits.ensures c.is_fill.ensures

@@ -6,7 +6,6 @@ use mathlib.Core.Path.{◌≡◌, refl, ap, ap₂}
 use mathlib.Core.Bool.{Bool, true, false}
 use mathlib.Core.List.{List, [], ◌∷◌, map}
 use lib.Dec.{eqb, leb}
-use borrow.Author.Tests.{ne_eqb}
 use Rattle.rules.specs.Bytes.{Bytes}
 use Rattle.rules.specs.Preorder.{Deep}
 use Rattle.rules.specs.Layout.{FlatRow}
@@ -30,20 +29,19 @@ module _ (definition from less : ℕ) where
   shifted_low : (j least fall : ℕ) → shifted (record { from = least; more = 0; less = fall }) j ≡ lowered least fall j
   shifted_low j least fall = ap (λ (k : ℕ). elim (leb least j) as (λ z. ℕ) [ true ↦ k - fall | false ↦ j ]) (add-zero j)
 
-  kept_moved : (v : Bytes) (x : Deep FlatRow) → Old x → kept_row p v x ≡ moved_row (lowered definition 1) (lowered from less) x
+  kept_moved : (v : Bytes) (x : Deep FlatRow) → kept_row p v x ≡ moved_row (lowered definition 1) (lowered from less) x
   unfolding kept_row moved_row
-  kept_moved v x h =
-      ap₂ (λ (k : ℕ) (w : Bytes). record { depth = x.depth; row = record { sort = x.row.sort; index = k; serial = x.row.serial; value = w } })
+  kept_moved v x =
+      ap (λ (k : ℕ). record { depth = x.depth; row = record { sort = x.row.sort; index = k; serial = x.row.serial; value = x.row.value } })
       (ap₂ (λ (a b : ℕ). elim (eqb x.row.sort 1) as (λ z. ℕ) [
         | true ↦ a
         | false ↦ elim (eqb x.row.sort 2) as (λ z. ℕ) [ true ↦ b | false ↦ x.row.index ]
       ])
       (shifted_low x.row.index definition 1) (shifted_low x.row.index from less))
-      (ap (λ (b : Bool). elim b as (λ z. Bytes) [ true ↦ v | false ↦ x.row.value ]) (ne_eqb x.row.serial 0 (λ q. omega arith)))
 
-  pub kept_rows : (v : Bytes) (xs : List (Deep FlatRow)) → Every Old xs → map (kept_row p v) xs ≡ map (moved_row (lowered definition 1) (lowered from less)) xs
-  kept_rows v [] e = refl
-  kept_rows v (x ∷ xs) (a, e) = ap₂ (λ (y : Deep FlatRow) (l : List (Deep FlatRow)). y ∷ l) (kept_moved v x a) (kept_rows v xs e)
+  pub kept_rows : (v : Bytes) (xs : List (Deep FlatRow)) → map (kept_row p v) xs ≡ map (moved_row (lowered definition 1) (lowered from less)) xs
+  kept_rows v [] = refl
+  kept_rows v (x ∷ xs) = ap₂ (λ (y : Deep FlatRow) (l : List (Deep FlatRow)). y ∷ l) (kept_moved v x) (kept_rows v xs)
 
 pub moved_old : (g h : ℕ → ℕ) (xs : List (Deep FlatRow)) → Every Old xs → Every Old (map (moved_row g h) xs)
 unfolding moved_row

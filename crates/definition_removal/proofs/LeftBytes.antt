@@ -117,7 +117,7 @@ module _ (bs : Bytes) (p : passes bs ≡ true) (i : ℕ) (h : i < definition_cou
   rows_are a b v ea eb =
       sym
       (rows_still (shifting (i + 1) b (b - a)) v refl refl f
-      ∙ kept_rows (i + 1) b (b - a) v f.rows old
+      ∙ kept_rows (i + 1) b (b - a) v f.rows
       ∙ (λ j. map (moved_row (lowered (add-one i j) 1) (lowered (eb j) (eb j - ea j))) f.rows))
 
   -- q: the plan that the code makes

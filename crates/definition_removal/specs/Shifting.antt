@@ -1,5 +1,5 @@
 -- The plan that keeps all rows and moves their indices.
-use Rattle.std.specs.Prelude.{ℕ, false}
+use Rattle.std.specs.Prelude.{ℕ, None, false}
 use Rattle.filling.specs.declared.Filling.TheVariants as filling
 use Rattle.row_walk.specs.declared.Which.TheVariants.{Nothing}
 use Rattle.row_walk.specs.declared.Later.TheVariants.{Never}
@@ -18,7 +18,7 @@ shifting definition from less =
       marks = unmarked;
       keeps = false;
       spares = false;
-      set = 0;
+      set = None;
       definitions = record { from = definition; more = 0; less = 1 };
       attributes = record { from = from; more = 0; less = less };
     }

@@ -290,7 +290,7 @@ fn shifting(definition: usize, from: usize, less: usize) -> Plan
         marks,
         keeps: false,
         spares: false,
-        set: 0,
+        set: None,
         definitions: Shift {
             from: definition,
             more: 0,

@@ -3,6 +3,7 @@ use Prim.Native.Nat.{ℕ, suc}
 use mathlib.Core.Path.{◌≡◌, refl, ap, ap₂, ◌∙◌}
 use mathlib.Core.Bool.{Bool, true, false, ◌&&◌, ◌||◌, not, and-false, false≢true}
 use mathlib.Core.List.{List, [], ◌∷◌, ◌++◌, map}
+use Rattle.std.specs.Prelude.{Option, None, Some}
 use Rattle.rules.specs.Bytes.{Bytes}
 use Rattle.rules.specs.Preorder.{Deep}
 use Rattle.rules.specs.Layout.{FlatRow, FlatStore}
@@ -32,8 +33,8 @@ matches_none (Serial k) r e = absurd (false≢true e)
 
 -- ---- the walk: nothing is taken and nothing is due
 module _ (p : Plan) (v : Bytes) (none : is_nothing p.takes ≡ true) (dry : p.fills ≡ false) where
-  abbrev calm : ℕ → Open
-  calm b = record { taking = 0; below = b; due = false }
+  abbrev calm : Option ℕ → Open
+  calm b = record { taking = None; below = b; due = false }
 
   not_taken : (o : Open) (x : Deep FlatRow) → is_taken p o x ≡ false
   not_taken o x =
@@ -41,45 +42,45 @@ module _ (p : Plan) (v : Bytes) (none : is_nothing p.takes ≡ true) (dry : p.fi
       ∙ ap (λ (b : Bool). b && not (p.keeps && o.due)) (and-false (is_everything p.above || is_below o x))
 
   -- how deep is open after what a row closes, and after the row
-  abbrev shallow : ℕ → Deep FlatRow → ℕ
-  shallow b x = elim (closes (calm b) x) as (λ z. ℕ) [ true ↦ 0 | false ↦ b ]
+  abbrev shallow : Option ℕ → Deep FlatRow → Option ℕ
+  shallow b x = elim (closes (calm b) x) as (λ z. Option ℕ) [ true ↦ None | false ↦ b ]
 
-  abbrev deeper : ℕ → Deep FlatRow → ℕ
-  deeper b x = elim (matches p.above x.row) as (λ z. ℕ) [ true ↦ suc (suc x.depth) | false ↦ b ]
+  abbrev deeper : Option ℕ → Deep FlatRow → Option ℕ
+  deeper b x = elim (matches p.above x.row) as (λ z. Option ℕ) [ true ↦ Some (suc x.depth) | false ↦ b ]
 
-  closed_calm : (b : ℕ) (x : Deep FlatRow) → closed (calm b) x ≡ calm (shallow b x)
+  closed_calm : (b : Option ℕ) (x : Deep FlatRow) → closed (calm b) x ≡ calm (shallow b x)
   closed_calm b x = by (closes (calm b) x)
     where
-      by : (c : Bool) → elim c as (λ z. Open) [ true ↦ calm 0 | false ↦ calm b ] ≡ calm (elim c as (λ z. ℕ) [ true ↦ 0 | false ↦ b ])
+      by : (c : Bool) → elim c as (λ z. Open) [ true ↦ calm None | false ↦ calm b ] ≡ calm (elim c as (λ z. Option ℕ) [ true ↦ None | false ↦ b ])
       by true = refl
       by false = refl
 
-  kept_calm : (b : ℕ) (x : Deep FlatRow) → after_kept p (calm b) x ≡ calm (deeper b x)
+  kept_calm : (b : Option ℕ) (x : Deep FlatRow) → after_kept p (calm b) x ≡ calm (deeper b x)
   kept_calm b x = by (matches p.above x.row)
     where
       by : (m : Bool)
-          → elim m as (λ z. Open) [ true ↦ record { taking = 0; below = suc (suc x.depth); due = p.fills } | false ↦ calm b ]
-          ≡ calm (elim m as (λ z. ℕ) [ true ↦ suc (suc x.depth) | false ↦ b ])
-      by true = ap (λ (d : Bool). record { taking = 0; below = suc (suc x.depth); due = d }) dry
+          → elim m as (λ z. Open) [ true ↦ record { taking = None; below = Some (suc x.depth); due = p.fills } | false ↦ calm b ]
+          ≡ calm (elim m as (λ z. Option ℕ) [ true ↦ Some (suc x.depth) | false ↦ b ])
+      by true = ap (λ (d : Bool). record { taking = None; below = Some (suc x.depth); due = d }) dry
       by false = refl
 
-  first_calm : at_first p ≡ calm (elim (names_ground p.above) as (λ z. ℕ) [ true ↦ 1 | false ↦ 0 ])
+  first_calm : at_first p ≡ calm (elim (names_ground p.above) as (λ z. Option ℕ) [ true ↦ Some 0 | false ↦ None ])
   first_calm = by (names_ground p.above)
     where
-      by : (g : Bool) → elim g as (λ z. Open) [ true ↦ record { taking = 0; below = 1; due = p.fills } | false ↦ calm 0 ] ≡ calm (elim g as (λ z. ℕ) [ true ↦ 1 | false ↦ 0 ])
-      by true = ap (λ (d : Bool). record { taking = 0; below = 1; due = d }) dry
+      by : (g : Bool) → elim g as (λ z. Open) [ true ↦ record { taking = None; below = Some 0; due = p.fills } | false ↦ calm None ] ≡ calm (elim g as (λ z. Option ℕ) [ true ↦ Some 0 | false ↦ None ])
+      by true = ap (λ (d : Bool). record { taking = None; below = Some 0; due = d }) dry
       by false = refl
 
   module _ (fill : ℕ → List (Deep FlatRow)) where
-    emitted_one : (b : ℕ) (x : Deep FlatRow) → emitted p v fill (calm b) x ≡ kept_row p v x ∷ []
+    emitted_one : (b : Option ℕ) (x : Deep FlatRow) → emitted p v fill (calm b) x ≡ kept_row p v x ∷ []
     unfolding emitted
     emitted_one b x = ap (λ (t : Bool). elim t as (λ z. List (Deep FlatRow)) [ true ↦ [] | false ↦ owed (is_filled p (calm b) x) (fill x.depth) ++ kept_row p v x ∷ [] ]) (not_taken (calm b) x)
 
-    onward_calm : (b : ℕ) (x : Deep FlatRow) → next_open p v fill (calm b) x ≡ calm (deeper b x)
+    onward_calm : (b : Option ℕ) (x : Deep FlatRow) → next_open p v fill (calm b) x ≡ calm (deeper b x)
     unfolding next_open
     onward_calm b x = ap (λ (t : Bool). elim t as (λ z. Open) [ true ↦ after_taken (calm b) x | false ↦ after_kept p (calm b) x ]) (not_taken (calm b) x) ∙ kept_calm b x
 
-    walked_calm : (b : ℕ) (xs : List (Deep FlatRow)) → walked p v fill (calm b) xs ≡ map (kept_row p v) xs
+    walked_calm : (b : Option ℕ) (xs : List (Deep FlatRow)) → walked p v fill (calm b) xs ≡ map (kept_row p v) xs
     unfolding walked
     walked_calm b [] = refl
     walked_calm b (x ∷ xs) =

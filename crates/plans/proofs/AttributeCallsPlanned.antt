@@ -114,7 +114,7 @@ module _ (s : Store) (g : good s ≡ true) where
           index =
               index_moved s.form new p u.name r refl (index_kept (with_attributes more) (λ d. refl) o s.form r.name)
               (λ e. let (j, (d, f, m)) = own e in added_shift o s.form once l u.name d f r.name m (new_attribute n k v));
-          value = value_same r v [] (given s g r b i);
+          value = value_same r [] (given s g r b i);
           fills = ap (λ (c : Bool). c && must_be_present s.version (sort_of k)) (element_test s.form once o l u.name r) ∙ and_comm (element_named name r) (must_be_present s.version (sort_of k));
           filling = λ e.
               filled r.name (same_eq name r.name (and_split (is_element r.sort) (same name r.name) (and_split (must_be_present s.version (sort_of k)) (element_named name r) e).1).1);
@@ -224,7 +224,7 @@ module _ (s : Store) (g : good s ≡ true) where
                   index =
                       index_moved s.form left dropping u.name r refl (index_kept (with_attributes (lacking lost)) (λ d. refl) i s.form r.name)
                       (λ z. let (y, (d, f, m)) = own z in dropped_shift i s.form once below u.name d f r.name m lost a there at_index (stays u r e y z));
-                  value = value_same r v [] (given s g r b j);
+                  value = value_same r [] (given s g r b j);
                   fills = and-false (matches (Elements i) (row_written s.form u.name r));
                   filling = λ z. absurd (false≢true z);
                 },

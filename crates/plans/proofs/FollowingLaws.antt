@@ -67,8 +67,8 @@ index_moved form new p owner r e f h = by r.sort refl
     by text q = rw q
 
 -- ---- no row has serial 0
-pub value_same : (r : Row) (v w : Bytes) → (r.serial ≡ 0 → ⊥) → ◌≡◌ {A = Bytes} (elim (eqb r.serial 0) [ true ↦ v | false ↦ r.value ]) (elim (eqb r.serial 0) [ true ↦ w | false ↦ r.value ])
-value_same r v w f = rw (differs numbers r.serial 0 f)
+pub value_same : (r : Row) (w : Bytes) → (r.serial ≡ 0 → ⊥) → ◌≡◌ {A = Bytes} r.value (elim (eqb r.serial 0) [ true ↦ w | false ↦ r.value ])
+value_same r w f = rw (differs numbers r.serial 0 f)
 
 -- ---- row by row; S: what is known of a row above, which is one of `above` or not
 module _ (form new : Form) (q : change.Plan) (p : Plan) (v : Bytes) (fill : ℕ → List (Deep FlatRow)) (docs : Forest Row) (S : Bool → Row → Type 0)
@@ -109,7 +109,7 @@ module _ (form : Form) (v : Bytes) (fill : ℕ → List (Deep FlatRow)) (sel : B
         takes = and-false (is_everything above || sel);
         later = λ e f. h e;
         index = index_same (filling_plan above later what) refl refl (row_written form u.name r);
-        value = value_same r v [] n;
+        value = value_same r [] n;
         fills = and-true (matches above (row_written form u.name r)) ∙ m;
         filling = g;
       }
@@ -121,7 +121,7 @@ module _ (form : Form) (v : Bytes) (fill : ℕ → List (Deep FlatRow)) (sel : B
         takes = h;
         later = λ e f. refl;
         index = index_same (taking_plan above takes) refl refl (row_written form u.name r);
-        value = value_same r v [] n;
+        value = value_same r [] n;
         fills = and-false (matches above (row_written form u.name r));
         filling = λ e. absurd (false≢true e);
       }

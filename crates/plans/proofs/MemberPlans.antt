@@ -100,7 +100,7 @@ module _ (s : Store) (g : good s ≡ true) (o : ℕ) (l : o < length s.form) (p 
           takes = and-false sel;
           later = λ e f. later_test s.form once (before_place c) [] marks (marked f) u.name r (known_element s g r b j);
           index = index_same inserting refl refl (row_written s.form u.name r);
-          value = value_same r t [] (given s g r b j);
+          value = value_same r [] (given s g r b j);
           fills = ap (λ (a : Bool). a && needs) (element_test s.form once o l u.name r) ∙ and_comm (element_named owner r) needs;
           filling = λ e d. sym (filling_index s g t d i r.name below);
         }

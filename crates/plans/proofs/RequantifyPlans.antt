@@ -173,7 +173,7 @@ module _ (s : Store) (g : good s ≡ true) (o : ℕ) (l : o < length s.form) (c 
     stays : (sel due owes : Bool) → requantified.takes u r ≡ false → taken_at p sel due (x' w u r b t) ≡ false
         → ((d : ℕ) → owed (filled_at p due (x' w u r b t)) (fill d) ≡ planted s.form s.form requantified p v fill (owes && is_late (before_place c) r) u.name d)
         → Staying s.form s.form requantified p v fill sel due owes w u r
-    stays sel due owes a e f = record { taken = a; takes = e; filling = f; index = index_same p refl refl (x' w u r b t); value = value_same r v [] (given s g r b i) }
+    stays sel due owes a e f = record { taken = a; takes = e; filling = f; index = index_same p refl refl (x' w u r b t); value = value_same r [] (given s g r b i) }
 
     later : (cut || gain) ≡ true → is_later marks Unmarked (x' w u r b t) ≡ is_late (before_place c) r
     later f = later_test s.form once (before_place c) ns marks (marked f) u.name r (known_element s g r b i)

@@ -4,8 +4,9 @@ use native.Mathlib.Omega.{arith}
 use mathlib.Core.Path.{◌≡◌, refl, sym, ap, ap₂, ◌∙◌}
 use mathlib.Core.Bool.{Bool, true, false, ◌&&◌, ◌||◌, not, false≢true, and-true, and-false}
 use mathlib.Core.List.{List, [], ◌∷◌, ◌++◌, append_assoc, append-nil}
-use lib.Dec.{eqb, ltb}
-use borrow.Author.Tests.{lt-ltb, le-ltb, le-leb, lt-leb, eq-eqb, ne_eqb}
+use lib.Dec.{eqb}
+use borrow.Author.Tests.{lt-ltb, le-ltb, eq-eqb, ne_eqb}
+use Rattle.std.specs.Prelude.{Option, None, Some}
 use Rattle.rules.specs.Bytes.{Bytes}
 use Rattle.rules.specs.Store.{Forest, bare, tree}
 use Rattle.rules.specs.Preorder.{Deep, preorder}
@@ -15,7 +16,7 @@ use Rattle.row_walk.specs.declared.Which.{Which}
 use Rattle.row_walk.specs.declared.Which.TheVariants.{Nothing, Everything, Ground, Elements, Attributes, Serial}
 use Rattle.row_walk.specs.declared.Plan.{Plan}
 use Rattle.row_walk.specs.declared.Open.{Open}
-use Rattle.row_walk.specs.Walk.{matches, is_everything, names_ground, is_later, kept_row, is_below_taken, closes, closed, is_taken, is_filled}
+use Rattle.row_walk.specs.Walk.{matches, is_everything, names_ground, is_later, kept_row, is_under, is_at, is_below_taken, closes, closed, is_taken, is_filled}
 use Rattle.row_walk.specs.Walk.{after_taken, after_kept, owed, row_depth, emitted, next_open, walked, at_first}
 use Rattle.plans.specs.Trees.{taken_at, filled_at, tree_walk, documents_walk, NoneOf, NotNested}
 use Rattle.plans.proofs.SimulationLaws.{walk_taken}
@@ -26,15 +27,33 @@ pub data Clear (p : Plan) (f : Forest FlatRow) : Type 0 where
   everywhere : is_everything p.above ≡ true → p.fills ≡ false → Clear p f
 
 -- what is open
-abbrev opened : ℕ → ℕ → Bool → Open
+abbrev opened : Option ℕ → Option ℕ → Bool → Open
 opened k b u = record { taking = k; below = b; due = u }
 
 abbrev at : ℕ → FlatRow → Deep FlatRow
 at d r = record { depth = d; row = r }
 
 -- what is open once a row has closed the open row or not
-abbrev left_open : Bool → ℕ → Bool → Open
-left_open c b u = elim c [ true ↦ opened 0 0 false | false ↦ opened 0 b u ]
+abbrev left_open : Bool → Option ℕ → Bool → Open
+left_open c b u = elim c [ true ↦ opened None None false | false ↦ opened None b u ]
+
+-- the rows right below the open row, if there is one, are less deep than d
+abbrev Low : Option ℕ → ℕ → Type 0
+Low None d = Unit {0}
+Low (Some k) d = k < d
+
+low_more : (b : Option ℕ) (d : ℕ) → Low b d → Low b (suc d)
+low_more None d h = tt
+low_more (Some k) d h = omega arith
+
+-- .. and no row of depth d is one of them, or closes the open row
+low_apart : (b : Option ℕ) (d : ℕ) → Low b d → is_at b d ≡ false
+low_apart None d h = refl
+low_apart (Some k) d h = ne_eqb k d (λ e. omega arith)
+
+low_open : (b : Option ℕ) (d : ℕ) → Low b (suc d) → is_under b d ≡ false
+low_open None d h = refl
+low_open (Some k) d h = le-ltb d k (omega arith)
 
 -- ---- tests
 everything_matches : (w : Which) → is_everything w ≡ true → (r : FlatRow) → matches w r ≡ true
@@ -97,27 +116,26 @@ module _ (p : Plan) (v : Bytes) (fill : ℕ → List (Deep FlatRow)) where
       ∙ ap (λ (c : Bool). owed (c && o.due) (fill (row_depth o)) ++ on_row (left_open c o.below o.due) x xs) q
 
   -- ---- a row taken is done with at the first row that is not deeper; the open row too, and its filling comes
-  done_taking : (k b : ℕ) (u : Bool) (rest : List (Deep FlatRow)) → Ends k rest → walked p v fill (opened k b u) rest ≡ walked p v fill (opened 0 b u) rest
+  done_taking : (k : ℕ) (b : Option ℕ) (u : Bool) (rest : List (Deep FlatRow)) → Ends (suc k) rest → walked p v fill (opened (Some k) b u) rest ≡ walked p v fill (opened None b u) rest
   unfolding walked
   done_taking k b u [] h = refl
   done_taking k b u (x ∷ rest) h =
-      walk_row (opened k b u) x rest (ltb (suc x.depth) b) (ap (λ (c : Bool). ltb 0 k && c) (lt-leb k x.depth h) ∙ and-false (ltb 0 k)) refl
-      ∙ sym (walk_row (opened 0 b u) x rest (ltb (suc x.depth) b) refl refl)
+      walk_row (opened (Some k) b u) x rest (is_under b x.depth) (le-ltb k x.depth (omega arith)) refl
+      ∙ sym (walk_row (opened None b u) x rest (is_under b x.depth) refl refl)
 
-  done_below : (d : ℕ) (u : Bool) (rest : List (Deep FlatRow)) → Ends d rest → walked p v fill (opened 0 (suc d) u) rest ≡ owed u (fill d) ++ walked p v fill (opened 0 0 false) rest
+  done_below : (d : ℕ) (u : Bool) (rest : List (Deep FlatRow)) → Ends d rest → walked p v fill (opened None (Some d) u) rest ≡ owed u (fill d) ++ walked p v fill (opened None None false) rest
   unfolding walked
-  done_below d u [] h = ap (λ (e : ℕ). owed u (fill e)) (omega arith) ∙ sym (append-nil (owed u (fill d)))
+  done_below d u [] h = sym (append-nil (owed u (fill d)))
   done_below d u (x ∷ rest) h =
-      walk_row (opened 0 (suc d) u) x rest true refl (lt-ltb (suc x.depth) (suc d) (omega arith))
-      ∙ ap (λ (e : ℕ). owed u (fill e) ++ on_row (opened 0 0 false) x rest) (omega arith)
-      ∙ ap (λ (l : List (Deep FlatRow)). owed u (fill d) ++ l) (sym (walk_row (opened 0 0 false) x rest false refl (le-ltb (suc x.depth) 0 (omega arith))))
+      walk_row (opened None (Some d) u) x rest true refl (lt-ltb x.depth d h)
+      ∙ ap (λ (l : List (Deep FlatRow)). owed u (fill d) ++ l) (sym (walk_row (opened None None false) x rest false refl refl))
 
-  skipped : (k b : ℕ) (u : Bool) (e : ℕ) (f : Forest FlatRow) (rest : List (Deep FlatRow)) → k < e
-      → walked p v fill (opened (suc k) b u) (preorder e f ++ rest) ≡ walked p v fill (opened (suc k) b u) rest
+  skipped : (k : ℕ) (b : Option ℕ) (u : Bool) (e : ℕ) (f : Forest FlatRow) (rest : List (Deep FlatRow)) → k < e
+      → walked p v fill (opened (Some k) b u) (preorder e f ++ rest) ≡ walked p v fill (opened (Some k) b u) rest
   skipped k b u e bare rest h = refl
   skipped k b u e (tree r g t) rest h =
-      walk_gone (opened (suc k) b u) (at e r) ((preorder (suc e) g ++ preorder e t) ++ rest) (ap₂ (λ (i j : Bool). i && j) (lt-ltb 0 (suc k) (omega arith)) (le-leb (suc k) e h))
-      ∙ ap (walked p v fill (opened (suc k) b u)) (append_assoc (preorder (suc e) g) (preorder e t) rest)
+      walk_gone (opened (Some k) b u) (at e r) ((preorder (suc e) g ++ preorder e t) ++ rest) (lt-ltb k e h)
+      ∙ ap (walked p v fill (opened (Some k) b u)) (append_assoc (preorder (suc e) g) (preorder e t) rest)
       ∙ skipped k b u (suc e) g (preorder e t ++ rest) (omega arith)
       ∙ skipped k b u e t rest h
 
@@ -160,107 +178,105 @@ module _ (p : Plan) (v : Bytes) (fill : ℕ → List (Deep FlatRow)) where
         ∙ ap (λ (l : List (Deep FlatRow)). owed (filled_at p due r) (fill d) ++ (kept_row p v (at d r) ∷ l)) (append_assoc inner others z)
 
     -- what is open after r, kept, as it is one of `above` or not
-    abbrev open_after : ℕ → Bool → Bool → Open
-    open_after b u m = elim m [ true ↦ opened 0 (suc (suc d)) p.fills | false ↦ opened 0 b (u && not (eqb b (suc d) && is_later p.marks p.later r)) ]
+    abbrev open_after : Option ℕ → Bool → Bool → Open
+    open_after b u m = elim m [ true ↦ opened None (Some (suc d)) p.fills | false ↦ opened None b (u && not (is_at b d && is_later p.marks p.later r)) ]
 
     -- of a row that closes nothing: the walk of it, of the rows below it and of those after it
-    node : (b : ℕ) (u m : Bool) (rest z : List (Deep FlatRow)) → b ≤ suc d → is_taken p (opened 0 b u) (at d r) ≡ taken_at p sel due r → (u && eqb b (suc d)) ≡ due
-        → matches p.above r ≡ m → Ends d rest → walked p v fill (opened 0 b u) (preorder d t ++ rest) ≡ tree_walk p v fill sel due d t ++ z
+    node : (b : Option ℕ) (u m : Bool) (rest z : List (Deep FlatRow)) → Low b (suc d) → is_taken p (opened None b u) (at d r) ≡ taken_at p sel due r → (u && is_at b d) ≡ due
+        → matches p.above r ≡ m → Ends d rest → walked p v fill (opened None b u) (preorder d t ++ rest) ≡ tree_walk p v fill sel due d t ++ z
         → walked p v fill (open_after b u m) (preorder (suc d) g ++ (preorder d t ++ rest)) ≡ tree_walk p v fill m (m && p.fills) (suc d) g ++ (others ++ z)
-        → walked p v fill (opened 0 b u) (preorder d (tree r g t) ++ rest) ≡ tree_walk p v fill sel due d (tree r g t) ++ z
+        → walked p v fill (opened None b u) (preorder d (tree r g t) ++ rest) ≡ tree_walk p v fill sel due d (tree r g t) ++ z
     node b u m rest z low tested owes one end skip keep =
-        walk_row (opened 0 b u) (at d r) ((preorder (suc d) g ++ preorder d t) ++ rest) false refl (le-ltb (suc d) b low)
-        ∙ ap (on_row (opened 0 b u) (at d r)) (append_assoc (preorder (suc d) g) (preorder d t) rest)
+        walk_row (opened None b u) (at d r) ((preorder (suc d) g ++ preorder d t) ++ rest) false refl (low_open b d low)
+        ∙ ap (on_row (opened None b u) (at d r)) (append_assoc (preorder (suc d) g) (preorder d t) rest)
         ∙ by (taken_at p sel due r) refl
       where
-        below : walked p v fill (after_kept p (opened 0 b u) (at d r)) (preorder (suc d) g ++ (preorder d t ++ rest)) ≡ inner ++ (others ++ z)
+        below : walked p v fill (after_kept p (opened None b u) (at d r)) (preorder (suc d) g ++ (preorder d t ++ rest)) ≡ inner ++ (others ++ z)
         below =
             ap (λ (c : Bool). walked p v fill (open_after b u c) (preorder (suc d) g ++ (preorder d t ++ rest))) one
             ∙ keep
             ∙ ap (λ (c : Bool). tree_walk p v fill c (c && p.fills) (suc d) g ++ (others ++ z)) (sym one)
 
-        by : (c : Bool) → taken_at p sel due r ≡ c → on_row (opened 0 b u) (at d r) (preorder (suc d) g ++ (preorder d t ++ rest)) ≡ tree_walk p v fill sel due d (tree r g t) ++ z
+        by : (c : Bool) → taken_at p sel due r ≡ c → on_row (opened None b u) (at d r) (preorder (suc d) g ++ (preorder d t ++ rest)) ≡ tree_walk p v fill sel due d (tree r g t) ++ z
         by true q =
-            row_taken (opened 0 b u) (at d r) (preorder (suc d) g ++ (preorder d t ++ rest)) (tested ∙ q)
+            row_taken (opened None b u) (at d r) (preorder (suc d) g ++ (preorder d t ++ rest)) (tested ∙ q)
             ∙ skipped d b u (suc d) g (preorder d t ++ rest) (omega arith)
-            ∙ done_taking (suc d) b u (preorder d t ++ rest) (ends_after d t rest end)
+            ∙ done_taking d b u (preorder d t ++ rest) (ends_after d t rest end)
             ∙ skip
             ∙ ap (λ (l : List (Deep FlatRow)). l ++ z) (sym (walk_taken p v fill sel due d r g t q))
         by false q =
-            row_kept (opened 0 b u) (at d r) (preorder (suc d) g ++ (preorder d t ++ rest)) (tested ∙ q)
+            row_kept (opened None b u) (at d r) (preorder (suc d) g ++ (preorder d t ++ rest)) (tested ∙ q)
             ∙ ap₂ (λ (c : Bool) (l : List (Deep FlatRow)). owed (filled_at p c r) (fill d) ++ (kept_row p v (at d r) ∷ l)) owes below
             ∙ sym (tree_kept q z)
 
   -- ---- forests, by what is open: a row further up
-  walk_deeper : (d b : ℕ) (u : Bool) (f : Forest FlatRow) (rest : List (Deep FlatRow)) → b ≤ d → NoneOf (matches p.above) f → Ends d rest
-      → walked p v fill (opened 0 b u) (preorder d f ++ rest) ≡ tree_walk p v fill false false d f ++ walked p v fill (opened 0 b u) rest
+  walk_deeper : (d : ℕ) (b : Option ℕ) (u : Bool) (f : Forest FlatRow) (rest : List (Deep FlatRow)) → Low b d → NoneOf (matches p.above) f → Ends d rest
+      → walked p v fill (opened None b u) (preorder d f ++ rest) ≡ tree_walk p v fill false false d f ++ walked p v fill (opened None b u) rest
   unfolding tree_walk
   walk_deeper d b u bare rest h none end = refl
   walk_deeper d b u (tree r g t) rest h (other, inside, beside) end =
-      node false false d r g t b u false rest (walked p v fill (opened 0 b u) rest) (omega arith)
+      node false false d r g t b u false rest (walked p v fill (opened None b u) rest) (low_more b d h)
       (ap₂ (λ (e c : Bool). ((e || c) && matches p.takes r) && not (p.keeps && u)) (not_everything p.above r other) apart_is
       ∙ sym (ap (λ (e : Bool). ((e || false) && matches p.takes r) && not (p.keeps && false)) (not_everything p.above r other)))
       (ap (λ (c : Bool). u && c) apart_is ∙ and-false u) other end (walk_deeper d b u t rest h beside end)
-      (ap (λ (c : Bool). walked p v fill (opened 0 b (u && not (c && is_later p.marks p.later r))) (preorder (suc d) g ++ (preorder d t ++ rest))) apart_is
-      ∙ ap (λ (c : Bool). walked p v fill (opened 0 b c) (preorder (suc d) g ++ (preorder d t ++ rest))) (and-true u)
-      ∙ walk_deeper (suc d) b u g (preorder d t ++ rest) (omega arith) inside (ends_after d t rest end)
+      (ap (λ (c : Bool). walked p v fill (opened None b (u && not (c && is_later p.marks p.later r))) (preorder (suc d) g ++ (preorder d t ++ rest))) apart_is
+      ∙ ap (λ (c : Bool). walked p v fill (opened None b c) (preorder (suc d) g ++ (preorder d t ++ rest))) (and-true u)
+      ∙ walk_deeper (suc d) b u g (preorder d t ++ rest) (low_more b d h) inside (ends_after d t rest end)
       ∙ ap (λ (l : List (Deep FlatRow)). tree_walk p v fill false false (suc d) g ++ l) (walk_deeper d b u t rest h beside end))
     where
-      apart_is : eqb b (suc d) ≡ false
-      apart_is = ne_eqb b (suc d) (λ e. omega arith)
+      apart_is : is_at b d ≡ false
+      apart_is = low_apart b d h
 
   -- the row right above
   walk_below : (d : ℕ) (u : Bool) (f : Forest FlatRow) (rest : List (Deep FlatRow)) → NoneOf (matches p.above) f → Ends d rest
-      → walked p v fill (opened 0 (suc d) u) (preorder d f ++ rest) ≡ tree_walk p v fill true u d f ++ walked p v fill (opened 0 0 false) rest
+      → walked p v fill (opened None (Some d) u) (preorder d f ++ rest) ≡ tree_walk p v fill true u d f ++ walked p v fill (opened None None false) rest
   unfolding tree_walk
   walk_below d u bare rest none end = done_below d u rest end
   walk_below d u (tree r g t) rest (other, inside, beside) end =
-      node true u d r g t (suc d) u false rest (walked p v fill (opened 0 0 false) rest) (omega arith)
+      node true u d r g t (Some d) u false rest (walked p v fill (opened None None false) rest) (omega arith)
       (ap (λ (c : Bool). ((is_everything p.above || c) && matches p.takes r) && not (p.keeps && u)) here)
       (ap (λ (c : Bool). u && c) here ∙ and-true u) other end (walk_below d u t rest beside end)
-      (ap (λ (c : Bool). walked p v fill (opened 0 (suc d) (u && not (c && is_later p.marks p.later r))) (preorder (suc d) g ++ (preorder d t ++ rest))) here
-      ∙ walk_deeper (suc d) (suc d) (u && not (is_later p.marks p.later r)) g (preorder d t ++ rest) (omega arith) inside (ends_after d t rest end)
+      (ap (λ (c : Bool). walked p v fill (opened None (Some d) (u && not (c && is_later p.marks p.later r))) (preorder (suc d) g ++ (preorder d t ++ rest))) here
+      ∙ walk_deeper (suc d) (Some d) (u && not (is_later p.marks p.later r)) g (preorder d t ++ rest) (omega arith) inside (ends_after d t rest end)
       ∙ ap (λ (l : List (Deep FlatRow)). tree_walk p v fill false false (suc d) g ++ l) (walk_below d (u && not (is_later p.marks p.later r)) t rest beside end))
     where
-      here : eqb (suc d) (suc d) ≡ true
-      here = eq-eqb (suc d) (suc d) refl
+      here : eqb d d ≡ true
+      here = eq-eqb d d refl
 
   -- none
   walk_apart : (d : ℕ) (f : Forest FlatRow) (rest : List (Deep FlatRow)) → NotNested (matches p.above) f → Ends d rest
-      → walked p v fill (opened 0 0 false) (preorder d f ++ rest) ≡ tree_walk p v fill false false d f ++ walked p v fill (opened 0 0 false) rest
+      → walked p v fill (opened None None false) (preorder d f ++ rest) ≡ tree_walk p v fill false false d f ++ walked p v fill (opened None None false) rest
   unfolding tree_walk
   walk_apart d bare rest a end = refl
   walk_apart d (tree r g t) rest (none, inside, beside) end =
       by (matches p.above r) refl (walk_apart (suc d) g (preorder d t ++ rest) inside (ends_after d t rest end)) (walk_apart d t rest beside end)
     where
       by : (m : Bool) → matches p.above r ≡ m
-          → walked p v fill (opened 0 0 false) (preorder (suc d) g ++ (preorder d t ++ rest)) ≡ tree_walk p v fill false false (suc d) g ++ walked p v fill (opened 0 0 false) (preorder d t ++ rest)
-          → walked p v fill (opened 0 0 false) (preorder d t ++ rest) ≡ tree_walk p v fill false false d t ++ walked p v fill (opened 0 0 false) rest
-          → walked p v fill (opened 0 0 false) (preorder d (tree r g t) ++ rest) ≡ tree_walk p v fill false false d (tree r g t) ++ walked p v fill (opened 0 0 false) rest
+          → walked p v fill (opened None None false) (preorder (suc d) g ++ (preorder d t ++ rest)) ≡ tree_walk p v fill false false (suc d) g ++ walked p v fill (opened None None false) (preorder d t ++ rest)
+          → walked p v fill (opened None None false) (preorder d t ++ rest) ≡ tree_walk p v fill false false d t ++ walked p v fill (opened None None false) rest
+          → walked p v fill (opened None None false) (preorder d (tree r g t) ++ rest) ≡ tree_walk p v fill false false d (tree r g t) ++ walked p v fill (opened None None false) rest
       by true q x y =
-          node false false d r g t 0 false true rest (walked p v fill (opened 0 0 false) rest) (omega arith)
-          (ap (λ (c : Bool). ((is_everything p.above || c) && matches p.takes r) && not (p.keeps && false)) (ne_eqb 0 (suc d) (λ e. omega arith))) refl q end y
+          node false false d r g t None false true rest (walked p v fill (opened None None false) rest) tt refl refl q end y
           (walk_below (suc d) p.fills g (preorder d t ++ rest) (none q) (ends_after d t rest end)
           ∙ ap (λ (l : List (Deep FlatRow)). tree_walk p v fill true p.fills (suc d) g ++ l) y)
       by false q x y =
-          node false false d r g t 0 false false rest (walked p v fill (opened 0 0 false) rest) (omega arith)
-          (ap (λ (c : Bool). ((is_everything p.above || c) && matches p.takes r) && not (p.keeps && false)) (ne_eqb 0 (suc d) (λ e. omega arith))) refl q end y
+          node false false d r g t None false false rest (walked p v fill (opened None None false) rest) tt refl refl q end y
           (x ∙ ap (λ (l : List (Deep FlatRow)). tree_walk p v fill false false (suc d) g ++ l) y)
 
   -- every row is one of `above`, and none has a filling
-  walk_everywhere : (d b : ℕ) (sel : Bool) (f : Forest FlatRow) (rest : List (Deep FlatRow)) → is_everything p.above ≡ true → p.fills ≡ false → b ≤ suc d
-      → walked p v fill (opened 0 b false) rest ≡ walked p v fill (opened 0 0 false) rest → Ends d rest
-      → walked p v fill (opened 0 b false) (preorder d f ++ rest) ≡ tree_walk p v fill sel false d f ++ walked p v fill (opened 0 0 false) rest
+  walk_everywhere : (d : ℕ) (b : Option ℕ) (sel : Bool) (f : Forest FlatRow) (rest : List (Deep FlatRow)) → is_everything p.above ≡ true → p.fills ≡ false → Low b (suc d)
+      → walked p v fill (opened None b false) rest ≡ walked p v fill (opened None None false) rest → Ends d rest
+      → walked p v fill (opened None b false) (preorder d f ++ rest) ≡ tree_walk p v fill sel false d f ++ walked p v fill (opened None None false) rest
   unfolding tree_walk
   walk_everywhere d b sel bare rest e n low same end = same
   walk_everywhere d b sel (tree r g t) rest e n low same end =
-      node sel false d r g t b false true rest (walked p v fill (opened 0 0 false) rest) low
-      (ap (λ (c : Bool). ((c || eqb b (suc d)) && matches p.takes r) && not (p.keeps && false)) e ∙ sym (ap (λ (c : Bool). ((c || sel) && matches p.takes r) && not (p.keeps && false)) e)) refl
+      node sel false d r g t b false true rest (walked p v fill (opened None None false) rest) low
+      (ap (λ (c : Bool). ((c || is_at b d) && matches p.takes r) && not (p.keeps && false)) e ∙ sym (ap (λ (c : Bool). ((c || sel) && matches p.takes r) && not (p.keeps && false)) e)) refl
       (everything_matches p.above e r) end (walk_everywhere d b sel t rest e n low same end)
-      (ap (λ (c : Bool). walked p v fill (opened 0 (suc (suc d)) c) (preorder (suc d) g ++ (preorder d t ++ rest))) n
-      ∙ walk_everywhere (suc d) (suc (suc d)) true g (preorder d t ++ rest) e n (omega arith) (done_below (suc d) false (preorder d t ++ rest) (ends_after d t rest end))
+      (ap (λ (c : Bool). walked p v fill (opened None (Some (suc d)) c) (preorder (suc d) g ++ (preorder d t ++ rest))) n
+      ∙ walk_everywhere (suc d) (Some (suc d)) true g (preorder d t ++ rest) e n (omega arith) (done_below (suc d) false (preorder d t ++ rest) (ends_after d t rest end))
       (ends_after d t rest end)
-      ∙ ap₂ (λ (c : Bool) (l : List (Deep FlatRow)). tree_walk p v fill true c (suc d) g ++ l) (sym n) (walk_everywhere d 0 sel t rest e n (omega arith) refl end))
+      ∙ ap₂ (λ (c : Bool) (l : List (Deep FlatRow)). tree_walk p v fill true c (suc d) g ++ l) (sym n) (walk_everywhere d None sel t rest e n tt refl end))
 
   -- ---- the documents
   pub walk_tree : (f : Forest FlatRow) → Clear p f → walked p v fill (at_first p) (preorder 0 f) ≡ documents_walk p v fill f
@@ -268,7 +284,7 @@ module _ (p : Plan) (v : Bytes) (fill : ℕ → List (Deep FlatRow)) where
   walk_tree f clear = ap (walked p v fill (at_first p)) (sym (append-nil (preorder 0 f))) ∙ by (names_ground p.above) refl clear ∙ append-nil (documents_walk p v fill f)
     where
       open_first : Bool → Open
-      open_first c = elim c [ true ↦ opened 0 1 p.fills | false ↦ opened 0 0 false ]
+      open_first c = elim c [ true ↦ opened None (Some 0) p.fills | false ↦ opened None None false ]
 
       from : (c : Bool) → names_ground p.above ≡ c → walked p v fill (open_first c) (preorder 0 f ++ []) ≡ tree_walk p v fill c (c && p.fills) 0 f ++ []
           → walked p v fill (at_first p) (preorder 0 f ++ []) ≡ documents_walk p v fill f ++ []
@@ -279,4 +295,4 @@ module _ (p : Plan) (v : Bytes) (fill : ℕ → List (Deep FlatRow)) where
       by true q (apart a) = from true q (walk_below 0 p.fills f [] (none_of (matches p.above) (ground_matches p.above q) f) tt)
       by true q (everywhere e n) = absurd (false≢true (sym (everything_ground p.above e) ∙ q))
       by false q (apart a) = from false q (walk_apart 0 f [] a tt)
-      by false q (everywhere e n) = from false q (walk_everywhere 0 0 false f [] e n (omega arith) refl tt)
+      by false q (everywhere e n) = from false q (walk_everywhere 0 None false f [] e n tt refl tt)

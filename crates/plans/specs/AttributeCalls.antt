@@ -1,5 +1,5 @@
 -- The plans by indices of changes 9 and 10, and the bodies of the form after them.
-use Rattle.std.specs.Prelude.{ℕ, suc, true, false, List, [], ◌∷◌, ◌++◌, leb, take, drop}
+use Rattle.std.specs.Prelude.{ℕ, suc, None, true, false, List, [], ◌∷◌, ◌++◌, leb, take, drop}
 use Rattle.rules.specs.Layout.{FlatAttribute, FlatStore}
 use Rattle.rules.specs.Decode.{sort_of}
 use Rattle.rules.specs.Conforming.{must_be_present}
@@ -34,7 +34,7 @@ add_attribute_plan version o a k =
       marks = unmarked;
       keeps = false;
       spares = false;
-      set = 0;
+      set = None;
       definitions = unmoved;
       attributes = record { from = a; more = 1; less = 0 };
     }
@@ -51,7 +51,7 @@ destroy_attribute_plan o a =
       marks = unmarked;
       keeps = false;
       spares = false;
-      set = 0;
+      set = None;
       definitions = unmoved;
       attributes = record { from = a; more = 0; less = 1 };
     }

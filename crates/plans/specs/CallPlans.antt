@@ -1,5 +1,5 @@
 -- The plans by indices of changes 11 to 16; `setting_plan` of no row serves 6 and 7 too, `taking_plan` 4.
-use Rattle.std.specs.Prelude.{ℕ, true, false, eqb, replicate}
+use Rattle.std.specs.Prelude.{ℕ, None, Some, true, false, eqb, replicate}
 use Rattle.std.proofs.Math.Option.{none, some}
 use Rattle.rules.specs.Bytes.{Bytes}
 use Rattle.rules.specs.Store.{Store}
@@ -33,7 +33,7 @@ filling_plan above later rows =
       marks = unmarked;
       keeps = false;
       spares = false;
-      set = 0;
+      set = None;
       definitions = unmoved;
       attributes = unmoved;
     }
@@ -49,7 +49,7 @@ taking_plan above takes =
       marks = unmarked;
       keeps = false;
       spares = false;
-      set = 0;
+      set = None;
       definitions = unmoved;
       attributes = unmoved;
     }
@@ -66,7 +66,7 @@ setting_plan m =
       marks = unmarked;
       keeps = false;
       spares = false;
-      set = m;
+      set = Some m;
       definitions = unmoved;
       attributes = unmoved;
     }

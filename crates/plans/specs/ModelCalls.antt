@@ -1,5 +1,5 @@
 -- The plans by indices of changes 3, 4, 5 and 8, which edit the model of definition o at a place.
-use Rattle.std.specs.Prelude.{ℕ, ◌<◌, ◌≡◌, Bool, true, false, ◌||◌, List, [], eqb, length, get_or}
+use Rattle.std.specs.Prelude.{ℕ, None, ◌<◌, ◌≡◌, Bool, true, false, ◌||◌, List, [], eqb, length, get_or}
 use Rattle.rules.specs.Bytes.{Bytes, bytes}
 use Rattle.rules.specs.Model.{member}
 use Rattle.rules.specs.Store.{Form, Store}
@@ -40,7 +40,7 @@ insert_element_plan o marks i needs =
       marks = marks;
       keeps = false;
       spares = false;
-      set = 0;
+      set = None;
       definitions = unmoved;
       attributes = unmoved;
     }
@@ -64,7 +64,7 @@ requantify_plan o marks cut x gain what =
       marks = marks;
       keeps = cut;
       spares = true;
-      set = 0;
+      set = None;
       definitions = unmoved;
       attributes = unmoved;
     }

@@ -28,7 +28,7 @@ const NOTHING: Plan = Plan {
     marks: [0; 64],
     keeps: false,
     spares: false,
-    set: 0,
+    set: None,
     definitions: UNMOVED,
     attributes: UNMOVED,
 };
@@ -61,7 +61,10 @@ pub fn taking_plan(above: Which, takes: Which) -> Plan
 pub fn setting_plan(set: u32) -> Plan
     ensures { result ≡ setting_plan set }
 {
-    Plan { set, ..NOTHING }
+    Plan {
+        set: Some(set),
+        ..NOTHING
+    }
 }
 
 // ---- attributes

@@ -7,6 +7,7 @@ use mathlib.Core.Bool.{Bool, true, false}
 use mathlib.Core.List.{List, [], ◌∷◌}
 use lib.ListN.{length, length-append}
 use lib.Dec.{eqb}
+use Rattle.std.specs.Prelude.{None, Some}
 use borrow.Author.Tests.{ne_eqb}
 use Rattle.rules.specs.Bytes.{Bytes}
 use Rattle.rules.specs.Preorder.{Deep}
@@ -57,7 +58,7 @@ module _ (p : Plan) (v : Bytes) (fill : ℕ → List (Deep FlatRow)) (F G : ℕ)
   due_first : only_if (at_first p).due F ≤ G * only_if (names_ground p.above) 1
   due_first = by (names_ground p.above)
     where
-      by : (g : Bool) → only_if (elim g as (λ z. Open) [ true ↦ record { taking = 0; below = 1; due = p.fills } | false ↦ record { taking = 0; below = 0; due = false } ]).due F ≤ G * only_if g 1
+      by : (g : Bool) → only_if (elim g as (λ z. Open) [ true ↦ record { taking = None; below = Some 0; due = p.fills } | false ↦ record { taking = None; below = None; due = false } ]).due F ≤ G * only_if g 1
       by true = omega (arith, fills)
       by false = omega arith
 

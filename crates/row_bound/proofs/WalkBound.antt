@@ -5,6 +5,7 @@ use native.Mathlib.Omega.{arith}
 use mathlib.Core.Path.{◌≡◌, ap}
 use mathlib.Core.Bool.{Bool, true, false, ◌&&◌, not}
 use mathlib.Core.List.{List, [], ◌∷◌, ◌++◌}
+use Rattle.std.specs.Prelude.{Option, None, Some}
 use Rattle.rules.specs.Bytes.{Bytes}
 use Rattle.rules.specs.Preorder.{Deep}
 use Rattle.rules.specs.Layout.{FlatRow}
@@ -17,9 +18,9 @@ use Rattle.walk_writer.proofs.WalkLaws.{walked_cons, walked_none}
 use Rattle.row_bound.specs.Bound.{only_if}
 
 -- ---- what is due is due once
-due_closed : (c d : Bool) (F t b : ℕ)
+due_closed : (c d : Bool) (F : ℕ) (t b : Option ℕ)
     → only_if (c && d) F
-    + only_if (elim c as (λ z. Open) [ true ↦ record { taking = 0; below = 0; due = false } | false ↦ record { taking = t; below = b; due = d } ]).due F
+    + only_if (elim c as (λ z. Open) [ true ↦ record { taking = None; below = None; due = false } | false ↦ record { taking = t; below = b; due = d } ]).due F
     ≤ only_if d F
 due_closed true d F t b = omega arith
 due_closed false d F t b = omega arith
@@ -58,8 +59,8 @@ module _ (p : Plan) (v : Bytes) (fill : ℕ → List (Deep FlatRow)) (size : Lis
         by : (m : Bool)
             → only_if (is_filled p o x) F
             + only_if (elim m as (λ z. Open) [
-              | true ↦ record { taking = 0; below = suc (suc x.depth); due = p.fills }
-              | false ↦ record { taking = 0; below = o.below; due = o.due && not (is_below o x && is_later p.marks p.later x.row) }
+              | true ↦ record { taking = None; below = Some (suc x.depth); due = p.fills }
+              | false ↦ record { taking = None; below = o.below; due = o.due && not (is_below o x && is_later p.marks p.later x.row) }
             ]).due
             F
             ≤ only_if o.due F + only_if m G
@@ -93,7 +94,7 @@ module _ (p : Plan) (v : Bytes) (fill : ℕ → List (Deep FlatRow)) (size : Lis
             arith,
             plus (owed (closes o x && o.due) (fill (row_depth o))) (emitted p v fill (closed o x) x),
             size_owed (closes o x && o.due) (row_depth o),
-            due_closed (closes o x) o.due F 0 o.below,
+            due_closed (closes o x) o.due F None o.below,
             size_emitted (closed o x) x one,
           )
 

@@ -1,5 +1,5 @@
 -- What the code reads of a row, and how large the numbers are that its tests meet.
-use Rattle.std.specs.Prelude.{suc, ◌≤◌, Bool, true, false, not, ◌&&◌, ◌||◌, [], eqb}
+use Rattle.std.specs.Prelude.{suc, ◌≤◌, None, Some, Bool, true, false, not, ◌&&◌, ◌||◌, [], eqb}
 use Rattle.rules.specs.Bytes.{Bytes}
 use Rattle.rules.specs.Preorder.{Deep}
 use Rattle.rules.specs.Layout.{FlatRow}
@@ -7,7 +7,7 @@ use Rattle.row_walk.specs.declared.Plan.{Plan}
 use Rattle.row_walk.specs.declared.Shift.{Shift}
 use Rattle.row_walk.specs.declared.Open.{Open}
 use Rattle.row_walk.specs.declared.Head.{Head}
-use Rattle.row_walk.specs.Walk.{matches, is_later, moved_index, is_below_taken, closes, closed, is_below, is_taken}
+use Rattle.row_walk.specs.Walk.{matches, is_later, moved_index, is_set, is_below_taken, closes, closed, is_below, is_taken}
 
 -- a row with what was read of it, and a value
 abbrev pub row_of_head : Head → Bytes → Deep FlatRow
@@ -24,8 +24,8 @@ stays_due p o x = o.due && not (is_below o x && is_later p.marks p.later x.row)
 abbrev pub kept_with : Plan → Bool → Open → Deep FlatRow → Open
 kept_with p due o x =
     elim (matches p.above x.row) [
-      | true ↦ record { taking = 0; below = suc (suc x.depth); due = p.fills }
-      | false ↦ record { taking = 0; below = o.below; due = due }
+      | true ↦ record { taking = None; below = Some (suc x.depth); due = p.fills }
+      | false ↦ record { taking = None; below = o.below; due = due }
     ]
 
 -- what is due below the open row does not stay due after a row right below it: the filling comes before it, or the row
@@ -38,7 +38,7 @@ ends_due p o x = (o.due && is_below o x) && is_later p.marks p.later x.row
 unfoldable pub is_plain : Plan → Open → Deep FlatRow → Bool
 is_plain p o x =
     (not (is_below_taken o x) && not ((closes o x && o.due) || ends_due p (closed o x) x))
-    && (not (is_taken p (closed o x) x) && (eqb (moved_index p x.row) x.row.index && not (eqb x.row.serial p.set)))
+    && (not (is_taken p (closed o x) x) && (eqb (moved_index p x.row) x.row.index && not (is_set p.set x.row.serial)))
 
 -- ---- how large the numbers are
 -- indices of at most 1,000 move up by at most 1,000; those of a store that passes are at most 64

@@ -1,5 +1,5 @@
 -- The walk over the rows, as a step from row to row.
-use Rattle.std.specs.Prelude.{ℕ, suc, ◌+◌, ◌-◌, Bool, true, false, ◌&&◌, ◌||◌, not, List, [], ◌∷◌, ◌++◌, eqb, leb, ltb, get_or}
+use Rattle.std.specs.Prelude.{ℕ, suc, ◌+◌, ◌-◌, Bool, true, false, ◌&&◌, ◌||◌, not, List, [], ◌∷◌, ◌++◌, eqb, leb, ltb, get_or, Option, None, Some, unwrap_or}
 use Rattle.rules.specs.Bytes.{Bytes}
 use Rattle.rules.specs.Preorder.{Deep}
 use Rattle.rules.specs.Layout.{FlatRow}
@@ -60,27 +60,47 @@ shifted s i = elim (leb s.from i) [ true ↦ i + s.more - s.less | false ↦ i ]
 abbrev pub moved_index : Plan → FlatRow → ℕ
 moved_index p r = elim (eqb r.sort 1) [ true ↦ shifted p.definitions r.index | false ↦ elim (eqb r.sort 2) [ true ↦ shifted p.attributes r.index | false ↦ r.index ] ]
 
+-- the row with a serial, if there is one
+abbrev pub is_set : Option ℕ → ℕ → Bool
+is_set None k = false
+is_set (Some m) k = eqb k m
+
 abbrev pub value_set : Plan → Bytes → FlatRow → Bytes
-value_set p v r = elim (eqb r.serial p.set) [ true ↦ v | false ↦ r.value ]
+value_set p v r = elim (is_set p.set r.serial) [ true ↦ v | false ↦ r.value ]
 
 unfoldable pub kept_row : Plan → Bytes → Deep FlatRow → Deep FlatRow
 kept_row p v x = record { depth = x.depth; row = record { sort = x.row.sort; index = moved_index p x.row; serial = x.row.serial; value = value_set p v x.row } }
 
 -- ---- what a row meets
+-- a depth, if there is one, is less than d
+abbrev pub is_over : Option ℕ → ℕ → Bool
+is_over None d = false
+is_over (Some k) d = ltb k d
+
+-- .. is more than d
+abbrev pub is_under : Option ℕ → ℕ → Bool
+is_under None d = false
+is_under (Some k) d = ltb d k
+
+-- .. is d
+abbrev pub is_at : Option ℕ → ℕ → Bool
+is_at None d = false
+is_at (Some k) d = eqb k d
+
 -- it stands below a row taken
 abbrev pub is_below_taken : Open → Deep FlatRow → Bool
-is_below_taken o x = ltb 0 o.taking && leb o.taking x.depth
+is_below_taken o x = is_over o.taking x.depth
 
 -- it is not below the open row any more
 abbrev pub closes : Open → Deep FlatRow → Bool
-closes o x = ltb (suc x.depth) o.below
+closes o x = is_under o.below x.depth
 
 abbrev pub closed : Open → Deep FlatRow → Open
-closed o x = elim (closes o x) [ true ↦ record { taking = 0; below = 0; due = false } | false ↦ record { taking = 0; below = o.below; due = o.due } ]
+closed o x = elim (closes o x) [ true ↦ record { taking = None; below = None; due = false } | false ↦ record { taking = None; below = o.below; due = o.due } ]
 
 -- it stands right below the open row
 abbrev pub is_below : Open → Deep FlatRow → Bool
-is_below o x = eqb o.below (suc x.depth)
+is_below o x = is_at o.below x.depth
 
 abbrev pub is_taken : Plan → Open → Deep FlatRow → Bool
 is_taken p o x = ((is_everything p.above || is_below o x) && matches p.takes x.row) && not (p.keeps && o.due)
@@ -91,13 +111,13 @@ is_filled p o x = (o.due && is_below o x) && (is_later p.marks p.later x.row && 
 
 -- ---- what is open after a row that is taken, and after one that is kept: the first row that is later ends what is due
 abbrev pub after_taken : Open → Deep FlatRow → Open
-after_taken o x = record { taking = suc x.depth; below = o.below; due = o.due }
+after_taken o x = record { taking = Some x.depth; below = o.below; due = o.due }
 
 abbrev pub after_kept : Plan → Open → Deep FlatRow → Open
 after_kept p o x =
     elim (matches p.above x.row) [
-      | true ↦ record { taking = 0; below = suc (suc x.depth); due = p.fills }
-      | false ↦ record { taking = 0; below = o.below; due = o.due && not (is_below o x && is_later p.marks p.later x.row) }
+      | true ↦ record { taking = None; below = Some (suc x.depth); due = p.fills }
+      | false ↦ record { taking = None; below = o.below; due = o.due && not (is_below o x && is_later p.marks p.later x.row) }
     ]
 
 -- ---- the walk; `fill d` are the rows of the filling at depth d
@@ -106,7 +126,7 @@ owed true w = w
 owed false w = []
 
 abbrev pub row_depth : Open → ℕ
-row_depth o = o.below - 1
+row_depth o = unwrap_or o.below 0
 
 module _ (p : Plan) (v : Bytes) (fill : ℕ → List (Deep FlatRow)) where
   -- the rows that come of a row of which the walk has closed what it closes, and what is open after it
@@ -126,4 +146,4 @@ module _ (p : Plan) (v : Bytes) (fill : ℕ → List (Deep FlatRow)) where
 
 -- what is open before the first row
 abbrev pub at_first : Plan → Open
-at_first p = elim (names_ground p.above) [ true ↦ record { taking = 0; below = 1; due = p.fills } | false ↦ record { taking = 0; below = 0; due = false } ]
+at_first p = elim (names_ground p.above) [ true ↦ record { taking = None; below = Some 0; due = p.fills } | false ↦ record { taking = None; below = None; due = false } ]

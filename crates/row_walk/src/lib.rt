@@ -3,7 +3,7 @@
 #![tactic(auto)]
 
 ghost use Rattle.std.specs.Prelude.{◌≡◌, ◌+◌, ◌≤◌};
-ghost use Rattle.row_walk.specs.Walk.{matches, is_later, spared, shifted, moved_index, is_below_taken, closes, closed, is_below, is_taken, is_filled, after_taken, at_first};
+ghost use Rattle.row_walk.specs.Walk.{matches, is_later, spared, shifted, moved_index, is_set, is_below_taken, closes, closed, is_below, is_taken, is_filled, after_taken, at_first};
 ghost use Rattle.row_walk.specs.Step.{valueless, kept_with, ends_due, is_plain, Moves, Fair};
 
 use filling::Filling;
@@ -42,7 +42,7 @@ pub struct Shift {
 /// `fills`, the filling comes before the first row that is later, else last. `marks`: of each definition, 1 if its name
 /// stands before a place in a model, 2 if it stands at the place, else 0. `spares`: where an element at the place is
 /// the first later row, no filling comes. `keeps`: no row is taken up to the first that is later. The row with serial
-/// `set` gets the call's value (0: none does).
+/// `set` gets the call's value.
 #[derive(Clone, Copy)]
 pub struct Plan {
     pub above: Which,
@@ -53,17 +53,17 @@ pub struct Plan {
     pub marks: [u8; 64],
     pub keeps: bool,
     pub spares: bool,
-    pub set: u32,
+    pub set: Option<u32>,
     pub definitions: Shift,
     pub attributes: Shift,
 }
 
-/// What is open between two rows. `taking`: 0, or 1 and the depth of a row taken, whose deeper rows go. `below`: 0, or
-/// 1 and the depth of the rows right below the open row of `above`. `due`: its filling is still to come.
+/// What is open between two rows. `taking`: the depth of a row taken, whose deeper rows go. `below`: the depth of the
+/// rows right below the open row of `above`. `due`: its filling is still to come.
 #[derive(Clone, Copy)]
 pub struct Open {
-    pub taking: usize,
-    pub below: usize,
+    pub taking: Option<usize>,
+    pub below: Option<usize>,
     pub due: bool,
 }
 
@@ -73,7 +73,7 @@ pub struct Head {
     pub depth: usize,
     pub sort: u8,
     pub index: usize,
-    pub serial: usize,
+    pub serial: u32,
 }
 
 // ---- tests of one row
@@ -88,7 +88,7 @@ pub fn matches(w: Which, h: Head) -> bool
         Which::Ground => false,
         Which::Elements(i) => (h.sort == 1) & (h.index == i),
         Which::Attributes(j) => (h.sort == 2) & (h.index == j),
-        Which::Serial(k) => (h.sort == 1) & (h.serial == k as usize),
+        Which::Serial(k) => (h.sort == 1) & (h.serial == k),
     }
 }
 
@@ -98,7 +98,7 @@ pub fn is_later(plan: &Plan, h: Head) -> bool
 {
     match plan.later {
         Later::Never => false,
-        Later::Row(k) => h.serial == k as usize,
+        Later::Row(k) => h.serial == k,
         Later::Past(j) => !((h.sort == 2) & (h.index < j)),
         Later::Unmarked => (h.sort == 1) & !(codec::byte(&plan.marks, h.index) == 1),
     }
@@ -137,13 +137,20 @@ pub fn moved_index(plan: &Plan, h: Head) -> usize
     h.index
 }
 
+/// Whether a row gets the call's value.
+pub fn is_valued(plan: &Plan, h: Head) -> bool
+    ensures { result ≡ is_set plan.now.set h.serial }
+{
+    plan.set == Some(h.serial)
+}
+
 // ---- what a row meets
 
 /// Whether a row stands below a row taken.
 pub fn gone(o: Open, h: Head) -> bool
     ensures { result ≡ is_below_taken o (valueless h) }
 {
-    (0 < o.taking) & (o.taking <= h.depth)
+    o.taking.is_some_and(|d| d < h.depth)
 }
 
 /// Whether a row is not below the open row any more.
@@ -151,7 +158,7 @@ pub fn closes(o: Open, h: Head) -> bool
     requires { Fair h }
     ensures { result ≡ closes o (valueless h) }
 {
-    h.depth + 1 < o.below
+    o.below.is_some_and(|d| h.depth < d)
 }
 
 /// What is open once a row has closed what it closes.
@@ -161,13 +168,13 @@ pub fn closed(o: Open, h: Head) -> Open
 {
     if closes(o, h) {
         return Open {
-            taking: 0,
-            below: 0,
+            taking: None,
+            below: None,
             due: false,
         };
     }
     Open {
-        taking: 0,
+        taking: None,
         below: o.below,
         due: o.due,
     }
@@ -178,7 +185,7 @@ pub fn is_below(o: Open, h: Head) -> bool
     requires { Fair h }
     ensures { result ≡ is_below o (valueless h) }
 {
-    o.below == h.depth + 1
+    o.below == Some(h.depth)
 }
 
 /// Whether a row is taken.
@@ -195,11 +202,11 @@ pub fn is_filled(plan: &Plan, o: Open, h: Head) -> bool
     requires { Fair h }
     ensures { result ≡ is_filled plan.now o (valueless h) }
 {
-    (o.due & is_below(o, h)) & (is_later(plan, h) & !spared(plan, h))
+    (o.due & is_below(o, h)) && (is_later(plan, h) & !spared(plan, h))
 }
 
-// Whether what is due does not stay due after a row right below the open row.
-fn ends_due(plan: &Plan, o: Open, h: Head) -> bool
+/// Whether what is due does not stay due after a row right below the open row.
+pub fn ends_due(plan: &Plan, o: Open, h: Head) -> bool
     requires { Fair h }
     ensures { result ≡ ends_due plan.now o (valueless h) }
 {
@@ -216,7 +223,7 @@ pub fn is_plain(plan: &Plan, o: Open, h: Head) -> bool
 {
     let q = closed(o, h);
     let due = (closes(o, h) & o.due) | ends_due(plan, q, h);
-    let same = (moved_index(plan, h) == h.index) & !(h.serial == plan.set as usize);
+    let same = (moved_index(plan, h) == h.index) & !is_valued(plan, h);
     (!gone(o, h) & !due) & (!is_taken(plan, q, h) & same)
 }
 
@@ -227,7 +234,7 @@ pub fn taken(o: Open, h: Head) -> Open
     ensures { result ≡ after_taken o (valueless h) }
 {
     Open {
-        taking: h.depth + 1,
+        taking: Some(h.depth),
         below: o.below,
         due: o.due,
     }
@@ -240,13 +247,13 @@ pub fn kept(plan: &Plan, o: Open, h: Head, due: bool) -> Open
 {
     if matches(plan.above, h) {
         return Open {
-            taking: 0,
-            below: h.depth + 2,
+            taking: None,
+            below: Some(h.depth + 1),
             due: plan.fills,
         };
     }
     Open {
-        taking: 0,
+        taking: None,
         below: o.below,
         due,
     }
@@ -257,14 +264,14 @@ pub fn at_first(plan: &Plan) -> Open
 {
     if plan.above == Which::Ground {
         return Open {
-            taking: 0,
-            below: 1,
+            taking: None,
+            below: Some(0),
             due: plan.fills,
         };
     }
     Open {
-        taking: 0,
-        below: 0,
+        taking: None,
+        below: None,
         due: false,
     }
 }

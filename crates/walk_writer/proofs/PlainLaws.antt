@@ -15,7 +15,7 @@ use Rattle.layout.proofs.RowLaws.{size_more}
 use Rattle.row_walk.specs.declared.Plan.{Plan}
 use Rattle.row_walk.specs.declared.Open.{Open}
 use Rattle.row_walk.specs.declared.Head.{Head}
-use Rattle.row_walk.specs.Walk.{is_later, spared, moved_index, kept_row, is_below_taken, closes, closed, is_below, is_taken, is_filled, after_taken, after_kept, owed, row_depth, emitted, next_open, walked}
+use Rattle.row_walk.specs.Walk.{is_later, spared, moved_index, is_set, kept_row, is_below_taken, closes, closed, is_below, is_taken, is_filled, after_taken, after_kept, owed, row_depth, emitted, next_open, walked}
 use Rattle.row_walk.specs.Step.{row_of_head, valueless, kept_with, ends_due, is_plain, Fair}
 use Rattle.walk_writer.specs.Step.{step_rows, step_open, Near, WalkRow, WalkRows, PlainRows}
 use Rattle.walk_writer.proofs.StepLaws.{due_stays, taken_any, filled_any, kept_any, seen, near_step}
@@ -28,7 +28,7 @@ record Plain (p : Plan) (o : Open) (h : Head) : Type 0 where
   pub due : ends_due p (closed o (valueless h)) (valueless h) ≡ false
   pub stays : is_taken p (closed o (valueless h)) (valueless h) ≡ false
   pub index : moved_index p (valueless h).row ≡ h.index
-  pub value : eqb h.serial p.set ≡ false
+  pub value : is_set p.set h.serial ≡ false
 
 plain_split : (g c d t i s : Bool) → ((not g && not (c || d)) && (not t && (i && not s))) ≡ true
     → (g ≡ false) × (c ≡ false) × (d ≡ false) × (t ≡ false) × (i ≡ true) × (s ≡ false)
@@ -45,7 +45,7 @@ unfolding is_plain
 plain_of p o h e =
     let after-closing = closed o (valueless h) in
     let (g, c, d, t, i, s) = plain_split (is_below_taken o (valueless h)) (closes o (valueless h) && o.due) (ends_due p after-closing (valueless h)) (is_taken p after-closing (valueless h))
-    (eqb (moved_index p (valueless h).row) h.index) (eqb h.serial p.set) e in
+    (eqb (moved_index p (valueless h).row) h.index) (is_set p.set h.serial) e in
     record { stands = g; closing = c; due = d; stays = t; index = eqb_eq (moved_index p (valueless h).row) h.index i; value = s }
 
 -- no filling comes before a row that does not end what is due

@@ -4,7 +4,7 @@ use native.Mathlib.Omega.{arith}
 use mathlib.Core.Path.{◌≡◌, refl, ap, ap₂, sym, ◌∙◌}
 use mathlib.Core.Bool.{Bool, true, false, not, ◌&&◌, ◌||◌, false≢true}
 use mathlib.Core.List.{List, [], ◌∷◌, ◌++◌}
-use lib.Dec.{eqb}
+use Rattle.std.specs.Prelude.{None, Some}
 use Rattle.rules.specs.Bytes.{Bytes}
 use Rattle.rules.specs.Preorder.{Deep}
 use Rattle.rules.specs.Layout.{FlatRow}
@@ -20,10 +20,10 @@ use Rattle.row_walk.specs.declared.Later.TheVariants.{Never, Row, Past, Unmarked
 use Rattle.row_walk.specs.declared.Plan.{Plan}
 use Rattle.row_walk.specs.declared.Open.{Open}
 use Rattle.row_walk.specs.declared.Head.{Head}
-use Rattle.row_walk.specs.Walk.{matches, is_everything, is_later, spared, moved_index, kept_row, is_below_taken, closes, closed, is_below, is_taken, is_filled}
+use Rattle.row_walk.specs.Walk.{matches, is_everything, is_later, spared, moved_index, is_set, kept_row, is_below_taken, closes, closed, is_below, is_taken, is_filled}
 use Rattle.row_walk.specs.Walk.{after_taken, after_kept, owed, row_depth, emitted, next_open}
 use Rattle.row_walk.specs.Step.{row_of_head, valueless, stays_due, kept_with}
-use Rattle.walk_writer.specs.Step.{row_rewritten, step_rows, step_open, Came, Near, WalkRow, Seen}
+use Rattle.walk_writer.specs.Step.{step_rows, step_open, Came, Near, WalkRow, Seen}
 
 -- ---- what is due after a row that opens nothing
 pub due_stays : (d b l : Bool) → ((d && b) && l) ≡ false → d ≡ (d && not (b && l))
@@ -32,9 +32,10 @@ due_stays true false l e = refl
 due_stays true true false e = refl
 due_stays true true true e = absurd (false≢true (sym e))
 
--- nothing is due right below
-pub due_still : (d b l : Bool) → (d && b) ≡ false → d ≡ (d && not (b && l))
-due_still d b l e = due_stays d b l (ap (λ (z : Bool). z && l) e)
+-- what is due ends only where it is due
+pub due_ended : (d b l : Bool) → (d && not ((d && b) && l)) ≡ (d && not (b && l))
+due_ended true b l = refl
+due_ended false b l = refl
 
 pub kept_due : (p : Plan) (o : Open) (h : Head) {d : Bool} {k : Open} → k ≡ kept_with p d o (valueless h) → d ≡ stays_due p o (valueless h) → k ≡ after_kept p o (valueless h)
 kept_due p o h e ed = e ∙ ap (λ (d : Bool). kept_with p d o (valueless h)) ed
@@ -66,9 +67,9 @@ module _ (p : Plan) (o : Open) (h : Head) (u : Bytes) where
     where
       opened : Bool → Bool → Open
       opened b f = elim b [
-        | true ↦ record { taking = 0; below = suc (suc h.depth); due = p.fills }
+        | true ↦ record { taking = None; below = Some (suc h.depth); due = p.fills }
         | false ↦ record {
-          taking = 0;
+          taking = None;
           below = o.below;
           due = o.due && not
               (is_below o (valueless h) && f);
@@ -88,13 +89,15 @@ module _ {w : ℕ} (p : Plan) (v : Bytes) (h : Head) (row : Bytes) (s : Seen w h
   serial_as : h.serial ≡ (read_row row).row.serial
   serial_as = ap (λ (x : Deep FlatRow). x.row.serial) s.is
 
-  row_as : (b : Bool) → eqb (read_row row).row.serial p.set ≡ b → (u : Bytes) → elim b [ true ↦ v | false ↦ (read_row row).row.value ] ≡ u → kept_row p v (read_row row) ≡ valued_row index u row
+  row_as : (b : Bool) → is_set p.set (read_row row).row.serial ≡ b → kept_row p v (read_row row) ≡ valued_row index (elim b [ true ↦ v | false ↦ (read_row row).row.value ]) row
   unfolding kept_row
-  row_as b t u q =
-      ap₂ (λ (j : ℕ) (u : Bytes). valued_row j u row) (sym moved_as) (ap (λ (z : Bool). elim z [ true ↦ v | false ↦ (read_row row).row.value ]) t ∙ q)
+  row_as b t =
+      ap₂ (λ (j : ℕ) (u : Bytes). valued_row j u row) (sym moved_as) (ap (λ (z : Bool). elim z [ true ↦ v | false ↦ (read_row row).row.value ]) t)
 
-  pub row_kept : {c r : Cursor} {out out' : Bytes} → Written w (row_rewritten (eqb h.serial p.set) index v row ∷ []) c out r out' → Written w (kept_row p v (read_row row) ∷ []) c out r out'
-  row_kept x = written_as (ap (λ (x : Deep FlatRow). x ∷ []) (row_as (eqb h.serial p.set) (ap (λ (k : ℕ). eqb k p.set) (sym serial_as)) _ refl)) x
+  -- b: it gets the value
+  pub row_kept : (b : Bool) → b ≡ is_set p.set h.serial → {c r : Cursor} {out out' : Bytes}
+      → Written w (valued_row index (elim b [ true ↦ v | false ↦ (read_row row).row.value ]) row ∷ []) c out r out' → Written w (kept_row p v (read_row row) ∷ []) c out r out'
+  row_kept b eb x = written_as (ap (λ (x : Deep FlatRow). x ∷ []) (row_as b (ap (is_set p.set) (sym serial_as) ∙ sym eb))) x
 
 pub seen : {w : ℕ} {h : Head} {row : Bytes} → WalkRow w row → row_of_head h (read_row row).row.value ≡ read_row row → Seen w h row
 seen r e =
@@ -138,14 +141,6 @@ module _ {w : ℕ} (p : Plan) (v : Bytes) (fill : ℕ → List (Deep FlatRow)) (
               (sym (is_taken_lem ∙ q));
         }
 
-    -- nothing is due right below
-    pub came_still : {c r : Cursor} {out out' : Bytes} → b ≡ false → (o.due && is_below o (valueless h)) ≡ false
-        → Written w (kept_row p v (read_row row) ∷ []) c out r out' → (k : Open) → k ≡ after_kept p o (valueless h)
-        → Came w (emitted p v fill o (read_row row)) (next_open p v fill o (read_row row)) c out r k out'
-    came_still q n x k g =
-        let none : false ≡ is_filled p o (valueless h) = sym (ap (λ (z : Bool). z && (is_later p.marks p.later (valueless h).row && not (spared p (valueless h).row))) n) in
-        came_kept q false none (owed_none (fill h.depth) refl) x k g
-
   module _ (g : Bool) (e : g ≡ is_below_taken o (valueless h)) where
     is_gone : is_below_taken o (read_row row) ≡ g
     is_gone = ap (is_below_taken o) (sym s.is) ∙ sym e
@@ -160,7 +155,7 @@ module _ {w : ℕ} (p : Plan) (v : Bytes) (fill : ℕ → List (Deep FlatRow)) (
           opens = ap (λ (z : Bool). elim z [ true ↦ o | false ↦ next_open p v fill (closed o (read_row row)) (read_row row) ]) (sym (is_gone ∙ q));
         }
 
-    pub step_on : {c d r : Cursor} {y' : Open} {out out₁ out' : Bytes} → g ≡ false → (z : Bool) → z ≡ closes o (valueless h) → (k : ℕ) → k ≡ o.below - 1 → (u : Open) → u ≡ closed o (valueless h)
+    pub step_on : {c d r : Cursor} {y' : Open} {out out₁ out' : Bytes} → g ≡ false → (z : Bool) → z ≡ closes o (valueless h) → (k : ℕ) → k ≡ row_depth o → (u : Open) → u ≡ closed o (valueless h)
         → Written w (owed (z && o.due) (fill k)) c out d out₁
         → Came w (emitted p v fill u (read_row row)) (next_open p v fill u (read_row row)) d out₁ r y' out' → Came w (step_rows p v fill o (read_row row)) (step_open p v fill o (read_row row)) c out r y' out'
     unfolding step_rows step_open

@@ -141,7 +141,7 @@ module _ {w : ℕ} {p : Plan} {v : Bytes} {fill : ℕ → List (Deep FlatRow)} w
             (step_open p v fill o (read_row (take (row_size w) t))) (read_many read_row (row_size w) (m - 1) (drop (row_size w) t))
         after = ap (walked p v fill o) (rows_step w m t h) ∙ walked_cons p v fill o (read_row (take (row_size w) t)) (read_many read_row (row_size w) (m - 1) (drop (row_size w) t))
 
-    pub going_end : m ≡ 0 → (k : ℕ) → k ≡ o.below - 1 → {r : Cursor} {out'' : Bytes} → Written w (owed o.due (fill k)) at out' r out'' → Written w whole c out r out''
+    pub going_end : m ≡ 0 → (k : ℕ) → k ≡ row_depth o → {r : Cursor} {out'' : Bytes} → Written w (owed o.due (fill k)) at out' r out'' → Written w whole c out r out''
     going_end e k ek {r} {out''} x =
         g.goes r out'' (written_as (ap (λ (n : ℕ). walked p v fill o (read_many read_row (row_size w) n t)) e ∙ walked_none p v fill o ∙ ap (λ (n : ℕ). owed o.due (fill n)) (sym ek)) x)
 

@@ -6,7 +6,6 @@ use Rattle.rules.specs.Layout.{FlatRow, row_size}
 use Rattle.rules.specs.Decode.{read_row, read_many}
 use Rattle.layout.specs.Bodies.{Width}
 use Rattle.layout.specs.declared.Form.{Form}
-use Rattle.layout.specs.RowBytes.{valued_row}
 use Rattle.row_writer.specs.declared.Cursor.{Cursor}
 use Rattle.row_writer.specs.Written.{Written, Room, OldRow}
 use Rattle.filling.specs.declared.Filling.{Filling}
@@ -17,10 +16,6 @@ use Rattle.row_walk.specs.declared.Head.{Head}
 use Rattle.row_walk.specs.Walk.{is_below_taken, closes, closed, owed, row_depth, emitted, next_open, walked}
 use Rattle.row_walk.specs.Step.{row_of_head, Planned, Fair}
 use Rattle.walk_writer.specs.declared.Run.{Run}
-
--- an old row with another index, and with another value if b
-abbrev pub row_rewritten : Bool → ℕ → Bytes → Bytes → Deep FlatRow
-row_rewritten b index v row = valued_row index (elim b [ true ↦ v | false ↦ (read_row row).row.value ]) row
 
 module _ (p : Plan) (v : Bytes) (fill : ℕ → List (Deep FlatRow)) where
   -- the rows that come of a row, and what is open after it
@@ -55,7 +50,7 @@ pub record Ready (F : Form) (txt : Bytes) (p : Plan) : Type 0 where
   pub filling : Indexed p.filling
 
 pub record Near (o : Open) : Type 0 where
-  pub below : o.below ≤ 82
+  pub below : row_depth o ≤ 81
 
 -- the bytes of an old row; a store that passes has no row deeper than 64
 pub record WalkRow (w : ℕ) (row : Bytes) : Type 0 where

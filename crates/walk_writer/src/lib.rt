@@ -6,11 +6,11 @@ ghost use Rattle.std.specs.Prelude.{◌≡◌, false, [], ◌∷◌, ◌*◌, �
 ghost use Rattle.rules.specs.Layout.{row_size};
 ghost use Rattle.rules.specs.Decode.{read_row, read_many};
 ghost use Rattle.layout.specs.Bodies.{Width};
-ghost use Rattle.row_writer.specs.Written.{Written, Room, OldRow};
+ghost use Rattle.row_writer.specs.Written.{Written, Room};
 ghost use Rattle.filling.specs.Parts.{fill_with, Asks, Indexed};
-ghost use Rattle.row_walk.specs.Walk.{is_taken, owed, walked, at_first};
-ghost use Rattle.row_walk.specs.Step.{row_of_head, valueless, Planned};
-ghost use Rattle.walk_writer.specs.Step.{row_rewritten, Came, plan_filling, Settled, Ready, Near, WalkRow, Seen, WalkRows, PlainRows, Advances};
+ghost use Rattle.row_walk.specs.Walk.{kept_row, owed, walked, at_first};
+ghost use Rattle.row_walk.specs.Step.{row_of_head, Planned};
+ghost use Rattle.walk_writer.specs.Step.{Came, plan_filling, Settled, Ready, Near, WalkRow, Seen, WalkRows, PlainRows, Advances};
 ghost use Rattle.walk_writer.specs.Going.{ReadyBy, fill_by, come_rows, come_open, goes_rows, goes_open};
 
 use filling::Filling;
@@ -43,27 +43,8 @@ pub fn read_head(row: &[u8]) -> Head
         depth: layout::row_depth(row) as usize,
         sort: layout::row_sort(row),
         index: layout::row_index(row) as usize,
-        serial: layout::row_serial(row) as usize,
+        serial: layout::row_serial(row),
     }
-}
-
-// A row that is kept, which gets the text if `valued`.
-fn put_row(
-    w: usize,
-    index: usize,
-    valued: bool,
-    text: &[u8],
-    row: &[u8],
-    c: &mut Cursor,
-    out: &mut [u8],
-)
-    requires { Width w × (index ≤ 2000) × (length text.now ≤ w) × OldRow w row.now × Room w c.old }
-    ensures { Written w (row_rewritten valued index text.now row.now ∷ []) c.old out.old c.new out.new }
-{
-    if valued {
-        return row_writer::put_valued(w, row, index, text, c, out);
-    }
-    row_writer::put_kept(w, row, index, c, out)
 }
 
 // ---- the walk
@@ -118,7 +99,7 @@ fn plain_rows(w: usize, plan: &Plan, rows: &[u8], most: usize, o: Open) -> Run
 }
 
 impl Walker<'_> {
-    // The filling at a depth, if it is due.
+    // The filling at a depth, if it is due: `due` is a test's answer, so that one `if` stands here for three callers.
     fn put_owed(&self, due: bool, depth: usize, c: &mut Cursor, out: &mut [u8])
         requires { Indexed self.now.plan.now.filling
             × Asks self.now.form.now c.old self.now.text.now self.now.form.now.definition_count depth }
@@ -129,20 +110,18 @@ impl Walker<'_> {
         }
     }
 
-    // What is open after a row that is not taken, where a filling may come right before it.
-    fn come_due(&self, h: Head, row: &[u8], o: Open, c: &mut Cursor, out: &mut [u8]) -> Open
-        requires { ReadyBy self.now × Seen self.now.form.now.width h row.now × Room self.now.form.now.width c.old
-            × (is_taken self.now.plan.now o (valueless h) ≡ false) }
-        ensures { Came self.now.form.now.width (come_rows self.now o (read_row row.now)) (come_open self.now o (read_row row.now))
-            c.old out.old c.new result out.new }
+    // A row that is kept, with its index after the change, and with the text where the plan gives it.
+    fn put_row(&self, h: Head, row: &[u8], c: &mut Cursor, out: &mut [u8])
+        requires { ReadyBy self.now × Seen self.now.form.now.width h row.now × Room self.now.form.now.width c.old }
+        ensures { Written self.now.form.now.width (kept_row self.now.plan.now self.now.text.now (read_row row.now) ∷ [])
+            c.old out.old c.new out.new }
     {
-        let filled = row_walk::is_filled(self.plan, o, h);
-        self.put_owed(filled, h.depth, c, out);
+        let w = self.form.width;
         let index = row_walk::moved_index(self.plan, h);
-        let valued = h.serial == self.plan.set as usize;
-        put_row(self.form.width, index, valued, self.text, row, c, out);
-        let due = o.due & !(row_walk::is_below(o, h) & row_walk::is_later(self.plan, h));
-        row_walk::kept(self.plan, o, h, due)
+        if row_walk::is_valued(self.plan, h) {
+            return row_writer::put_valued(w, row, index, self.text, c, out);
+        }
+        row_writer::put_kept(w, row, index, c, out)
     }
 
     // What is open after a row, where what it closes is closed.
@@ -154,13 +133,11 @@ impl Walker<'_> {
         if row_walk::is_taken(self.plan, o, h) {
             return row_walk::taken(o, h);
         }
-        if o.due & row_walk::is_below(o, h) {
-            return self.come_due(h, row, o, c, out);
-        }
-        let index = row_walk::moved_index(self.plan, h);
-        let valued = h.serial == self.plan.set as usize;
-        put_row(self.form.width, index, valued, self.text, row, c, out);
-        row_walk::kept(self.plan, o, h, o.due)
+        let filled = row_walk::is_filled(self.plan, o, h);
+        self.put_owed(filled, h.depth, c, out);
+        self.put_row(h, row, c, out);
+        let due = o.due & !row_walk::ends_due(self.plan, o, h);
+        row_walk::kept(self.plan, o, h, due)
     }
 
     // What is open after one row.
@@ -174,7 +151,7 @@ impl Walker<'_> {
             return o;
         }
         let due = row_walk::closes(o, h) & o.due;
-        let depth = layout::minus(o.below, 1);
+        let depth = o.below.unwrap_or(0);
         self.put_owed(due, depth, c, out);
         let q = row_walk::closed(o, h);
         self.come(h, row, q, c, out)
@@ -228,7 +205,7 @@ impl Walker<'_> {
             t = &t[long..];
             m -= run.count;
         }
-        let depth = layout::minus(o.below, 1);
+        let depth = o.below.unwrap_or(0);
         self.put_owed(o.due, depth, c, out)
     }
 }

@@ -1,10 +1,12 @@
--- `walk_writer::Walker::come` meets its contract: a row that is taken gives no row (`came_taken` of StepLaws); where a
--- filling may come before it, the contract of `come_due` is this one; else the row alone is written (`row_kept`,
--- `came_still`), and what is due stays due (`due_still`, `kept_due`).
-use mathlib.Core.Path.{ap, sym, ◌∙◌}
-use mathlib.Core.Bool.{Bool, ◌&&◌}
+-- `walk_writer::Walker::come` meets its contract: a row that is taken gives no row (`came_taken` of StepLaws); else the
+-- filling, if it comes before the row, and then the row itself are what comes of it (`came_kept`), and `kept` gives
+-- what is open after it (`due_ended`, `kept_due`).
+use mathlib.Core.Path.{refl, ◌∙◌}
+use mathlib.Core.Bool.{not, ◌&&◌}
+use Rattle.row_walk.specs.Walk.{is_below, is_later}
+use Rattle.row_walk.specs.Step.{valueless}
 use Rattle.walk_writer.specs.Going.{fill_by}
-use Rattle.walk_writer.proofs.StepLaws.{came_taken, came_still, row_kept, due_still, kept_due}
+use Rattle.walk_writer.proofs.StepLaws.{came_taken, came_kept, due_ended, kept_due}
 use Rattle.walk_writer.proofs.Walker.come.Goals as goal
 
 pub returns-then-is_taken : goal.returns-then-is_taken
@@ -20,8 +22,7 @@ returns c =
     let a = c.args in
     let p = a.self.now.plan.now in
     let fill = fill_by a.self.now in
-    let none = ap (λ (z : Bool). a.o.due && z) (sym c.is_below.ensures) ∙ c.if-o-is_below.false in
-    let row = row_kept p a.self.now.text.now a.h a.row.now c.requires.1 _ c.moved_index-index.ensures.0
-    c.put_row.ensures in
-    came_still p a.self.now.text.now fill a.o a.h a.row.now c.requires.1 _ c.is_taken.ensures c.if-is_taken.false none
-    row _ (kept_due p a.o a.h c.kept.ensures (due_still a.o.due _ _ none))
+    let x = valueless a.h in
+    let due = (λ j. a.o.due && not (c.ends_due.ensures j)) ∙ due_ended a.o.due (is_below a.o x) (is_later p.marks p.later x.row) in
+    came_kept p a.self.now.text.now fill a.o a.h a.row.now c.requires.1 _ c.is_taken.ensures c.if-is_taken.false _
+    c.is_filled-filled.ensures c.put_owed.ensures c.put_row.ensures _ (kept_due p a.o a.h c.kept.ensures due)

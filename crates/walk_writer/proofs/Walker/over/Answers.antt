@@ -10,4 +10,4 @@ returns-then-c-eq0 c =
 
 pub returns : goal.returns
 returns c =
-    going_end c.loop-m.invariant (omega arith) _ c.minus-depth.ensures c.put_owed.ensures
+    going_end c.loop-m.invariant (omega arith) _ c.unwrap_or-depth.ensures c.put_owed.ensures

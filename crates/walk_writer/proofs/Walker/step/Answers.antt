@@ -19,5 +19,5 @@ returns c =
     let p = a.self.now.plan.now in
     let fill = fill_by a.self.now in
     step_on p a.self.now.text.now fill a.o _ a.row.now (seen c.requires.1 c.read_head-h.ensures) _
-    c.gone.ensures c.if-gone.false _ c.closes.ensures _ c.minus-depth.ensures _ c.closed-q.ensures
+    c.gone.ensures c.if-gone.false _ c.closes.ensures _ c.unwrap_or-depth.ensures _ c.closed-q.ensures
     c.put_owed.ensures c.come.ensures

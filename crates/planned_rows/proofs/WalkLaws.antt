@@ -7,6 +7,7 @@ use mathlib.Core.Bool.{true}
 use mathlib.Core.List.{List}
 use lib.ListN.{length, take, drop, length-drop}
 use lib.Seq.{length-take-le}
+use Rattle.std.specs.Prelude.{IfSome}
 use Rattle.rules.specs.Bytes.{Bytes}
 use Rattle.rules.specs.Preorder.{Deep}
 use Rattle.rules.specs.Layout.{row_size, FlatRow, FlatStore, flat}
@@ -139,14 +140,14 @@ module _ {bs : Bytes} (q : passes bs ≡ true) {F : Form} {rows : Bytes} {count 
   pub rows_added : (p : Plan) (v : Bytes) {m : Most}
       → Bounds (walked p v (plan_filling F p v) (at_first p) (read_many read_row (row_size w) count rows)) (plan_filling F p v 0) count m
       → Bounds (rows_after p v (bodies_of bs)) (fill_of p v (bodies_of bs) 0) (row_count bs) m
-  rows_added p v y =
+  rows_added p v {m = m} y =
       record {
         adds = record {
           few = y.adds.few;
           rows = λ h. omega (arith, y.adds.rows h, ap length (rows_after_lem p v), x.count_is);
           new = λ h. omega (arith, y.adds.new h, ap new_in (rows_after_lem p v));
         };
-        one = λ h. y.one h ∙ ap (λ (ys : List (Deep FlatRow)). counted_to ys) (fill_after p v 0);
+        one = subst (λ (ys : List (Deep FlatRow)). IfSome m.one (λ k. (1 ≤ k) × (k ≡ counted_to ys))) (fill_after p v 0) y.one;
       }
 
   -- there are no more rows than the ceiling allows

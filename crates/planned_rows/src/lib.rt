@@ -121,8 +121,8 @@ pub fn refusal(
     if store_limits::limit(w, form, count + more, next + more, room).is_ok() {
         return Ok(());
     }
-    if 0 < most.one {
-        return filled_refusal(store, form, plan, text, most.one, room);
+    if let Some(one) = most.one {
+        return filled_refusal(store, form, plan, text, one, room);
     }
     let mut clipped = [0; 1];
     let counted = walk_rows(store, plan, text, 0, &mut clipped);

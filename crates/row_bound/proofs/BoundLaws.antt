@@ -2,12 +2,12 @@
 use Prim.Native.Nat.{ℕ, zero, suc, ◌+◌, ◌-◌, ◌*◌, ◌≤◌}
 use native.Mathlib.Nat.{zero-mul, mul-add, mul-le-mul}
 use native.Mathlib.Omega.{arith}
-use mathlib.Core.Path.{◌≡◌, refl, sym, ap, ◌∙◌}
+use mathlib.Core.Path.{◌≡◌, refl, sym, ap, subst, ◌∙◌}
 use mathlib.Core.Bool.{Bool, true, false}
 use mathlib.Core.List.{List, [], ◌∷◌}
 use lib.ListN.{length, length-append}
 use lib.Dec.{eqb}
-use Rattle.std.specs.Prelude.{None, Some}
+use Rattle.std.specs.Prelude.{Option, None, Some, IfSome}
 use borrow.Author.Tests.{ne_eqb}
 use Rattle.rules.specs.Bytes.{Bytes}
 use Rattle.rules.specs.Preorder.{Deep}
@@ -25,6 +25,7 @@ use Rattle.row_walk.specs.declared.Open.{Open}
 use Rattle.row_walk.specs.Walk.{matches, names_ground, kept_row, walked, at_first}
 use Rattle.walk_writer.specs.Step.{plan_filling, WalkRows}
 use Rattle.walk_writer.proofs.WalkLaws.{rows_old}
+use Rattle.row_bound.specs.declared.Most.{Most}
 use Rattle.row_bound.specs.Bound.{only_if, matching_in, places_in, counted_to, Adds, Bounds}
 use Rattle.row_bound.proofs.WalkBound.{most_of, size_walked}
 use Rattle.codec.proofs.Records.{length_many}
@@ -129,10 +130,10 @@ module _ (F : Form) (s : Bytes) (count : ℕ) (p : Plan) (v : Bytes) (x : WalkRo
   old = each_old F.width count s (rows_old F.width count s x)
 
   -- a plan that fills nothing
-  pub bounds_none : p.fills ≡ false → Bounds (walked p v fill (at_first p) xs) (fill 0) count (record { one = 0; all = 0 })
+  pub bounds_none : p.fills ≡ false → Bounds (walked p v fill (at_first p) xs) (fill 0) count (record { one = None; all = 0 })
   bounds_none e =
       let dry : only_if p.fills (length (fill 0)) ≤ 0 = omega (arith, ap (λ (b : Bool). only_if b (length (fill 0))) e) in
-      record { adds = adds_count (walked_adds p v fill (length (fill 0)) 0 same dry xs old (omega arith) (λ h. omega arith)); one = λ h. absurd (omega arith) }
+      record { adds = adds_count (walked_adds p v fill (length (fill 0)) 0 same dry xs old (omega arith) (λ h. omega arith)); one = tt }
 
   module _ {one : ℕ} (counted : one ≡ counted_to (fill 0)) where
     adds_times : {r : ℕ} → r ≤ 16785409 → r ≡ one * places_in p.above xs → Adds (walked p v fill (at_first p) xs) count r
@@ -143,9 +144,13 @@ module _ (F : Form) (s : Bytes) (count : ℕ) (p : Plan) (v : Bytes) (x : WalkRo
         (λ h. counted_times (length (fill 0)) (places_in p.above xs) r is h))
 
     -- a filling of no rows
-    pub bounds_empty : one ≡ 0 → Bounds (walked p v fill (at_first p) xs) (fill 0) count (record { one = 0; all = 0 })
+    pub bounds_empty : one ≡ 0 → Bounds (walked p v fill (at_first p) xs) (fill 0) count (record { one = None; all = 0 })
     bounds_empty e =
-        record { adds = adds_times (omega arith) (sym (ap (λ (m : ℕ). m * places_in p.above xs) e ∙ zero-mul (places_in p.above xs))); one = λ h. absurd (omega arith) }
+        record { adds = adds_times (omega arith) (sym (ap (λ (m : ℕ). m * places_in p.above xs) e ∙ zero-mul (places_in p.above xs))); one = tt }
 
-    pub bounds_places : one ≤ 4097 → {k : ℕ} → (k ≡ places_in p.above xs) × (k ≤ 4097) → Bounds (walked p v fill (at_first p) xs) (fill 0) count (record { one = one; all = one * k })
-    bounds_places few (is, l) = record { adds = adds_times (product_few few l) (ap (λ (m : ℕ). one * m) is); one = λ h. counted }
+    pub bounds_places : (one ≡ 0 → ⊥) → one ≤ 4097 → {k : ℕ} → (k ≡ places_in p.above xs) × (k ≤ 4097) → Bounds (walked p v fill (at_first p) xs) (fill 0) count (record { one = Some one; all = one * k })
+    bounds_places some few (is, l) = record { adds = adds_times (product_few few l) (ap (λ (m : ℕ). one * m) is); one = (omega arith, counted) }
+
+-- the number of rows of a filling, where it is given
+pub one_of : {xs filled : List (Deep FlatRow)} {count k : ℕ} {m : Most} → m.one ≡ Some k → Bounds xs filled count m → (1 ≤ k) × (k ≡ counted_to filled)
+one_of {filled = filled} e b = subst (λ (o : Option ℕ). IfSome o (λ k. (1 ≤ k) × (k ≡ counted_to filled))) e b.one

@@ -1,5 +1,5 @@
 -- How many rows a walk adds at most.
-use Rattle.std.specs.Prelude.{ℕ, ◌+◌, ◌-◌, ◌≤◌, ◌≡◌, Bool, true, false, List, [], ◌∷◌, length}
+use Rattle.std.specs.Prelude.{ℕ, ◌+◌, ◌-◌, ◌≤◌, ◌≡◌, IfSome, Bool, true, false, List, [], ◌∷◌, length}
 use Rattle.rules.specs.Preorder.{Deep}
 use Rattle.rules.specs.Layout.{FlatRow}
 use Rattle.row_writer.specs.Written.{new_in}
@@ -32,7 +32,7 @@ pub record Adds (xs : List (Deep FlatRow)) (count r : ℕ) : Type 0 where
   pub rows : r ≤ 4096 → length xs ≤ count + r
   pub new : r ≤ 4096 → new_in xs ≤ r
 
--- .. and `one` is 0, or the number of rows of a filling as it is counted
+-- .. and `one`, if it is given, is the number of rows of a filling as it is counted, and not 0
 pub record Bounds (xs filled : List (Deep FlatRow)) (count : ℕ) (m : Most) : Type 0 where
   pub adds : Adds xs count m.all
-  pub one : 1 ≤ m.one → m.one ≡ counted_to filled
+  pub one : IfSome m.one (λ k. (1 ≤ k) × (k ≡ counted_to filled))

@@ -5,10 +5,10 @@ ghost use Rattle.std.specs.Prelude.{◌≡◌, ◌+◌, ◌*◌, ◌≤◌, leng
 ghost use Rattle.rules.specs.Layout.{row_size};
 ghost use Rattle.rules.specs.Decode.{read_row, read_many};
 ghost use Rattle.layout.specs.Bodies.{Width};
-ghost use Rattle.row_walk.specs.Walk.{walked, at_first};
+ghost use Rattle.row_walk.specs.Walk.{matches, walked, at_first};
 ghost use Rattle.walk_writer.specs.Step.{plan_filling, Ready, WalkRows};
 ghost use Rattle.filling.specs.Parts.{fill_with, Indexed};
-ghost use Rattle.row_bound.specs.Bound.{only_if, matching_in, places_in, counted_to, Bounds};
+ghost use Rattle.row_bound.specs.Bound.{matching_in, places_in, counted_to, Bounds};
 
 use filling::Filling;
 use layout::Form;
@@ -16,39 +16,29 @@ use row_walk::{Plan, Which};
 use row_writer::Cursor;
 use store_limits::ROWS_PAST_CEILING;
 
-/// The rows of one filling, counted up to one past the ceiling, or 0 if none is put in; and the most rows of all of
+/// The rows of one filling, counted up to one past the ceiling, where some may be put in; and the most rows of all of
 /// them.
 #[derive(Clone, Copy)]
 pub struct Most {
-    pub one: usize,
+    pub one: Option<usize>,
     pub all: usize,
 }
 
-// n, and one more if b.
-fn more(n: usize, b: bool) -> usize
-    requires { n ≤ 4294967295 }
-    ensures { result ≡ n + only_if b 1 }
+// Whether a row is one of some rows.
+fn is_one(row: &[u8], which: Which) -> bool
+    ensures { result ≡ matches which (read_row row.now).row }
 {
-    if b { n + 1 } else { n }
+    row_walk::matches(which, walk_writer::read_head(row))
 }
 
 // How many of `count` rows are some of them.
 fn matching(w: usize, rows: &[u8], count: usize, which: Which) -> usize
-    requires { Width w × (row_size w * count ≤ length rows.now) × (count ≤ 4096) }
+    requires { Width w × (count ≤ 4096) }
     ensures { (result ≡ matching_in which (read_many read_row (row_size w) count rows.now)) × (result ≤ 4096) }
 {
-    let size = layout::row_size(w);
-    // By `chunks_exact` the number of rows that are left is not at hand, and the proof did not close.
-    let mut t = rows;
-    let mut m = count;
-    let mut found = 0;
-    while 0 < m {
-        let row = &t[..size];
-        found = more(found, row_walk::matches(which, walk_writer::read_head(row)));
-        t = &t[size..];
-        m -= 1;
-    }
-    found
+    (0..count)
+        .filter(|&i| is_one(layout::row_at(w, rows, i), which))
+        .count()
 }
 
 // The places that may be filled below the rows `above`.
@@ -56,8 +46,7 @@ fn places(w: usize, rows: &[u8], count: usize, above: Which) -> usize
     requires { Width w × (row_size w * count ≤ length rows.now) × (count ≤ 4096) }
     ensures { (result ≡ places_in above (read_many read_row (row_size w) count rows.now)) × (result ≤ 4097) }
 {
-    let below = matching(w, rows, count, above);
-    more(below, above == Which::Ground)
+    matching(w, rows, count, above) + usize::from(above == Which::Ground)
 }
 
 // The rows of a filling, counted up to one past the ceiling.
@@ -87,13 +76,16 @@ pub fn most_added(form: &Form<'_>, rows: &[u8], count: usize, plan: Plan, text: 
         count result }
 {
     if !plan.fills {
-        return Most { one: 0, all: 0 };
+        return Most { one: None, all: 0 };
     }
     let one = filling_rows(form, plan.filling, text);
     if one == 0 {
-        return Most { one: 0, all: 0 };
+        return Most { one: None, all: 0 };
     }
     let above = plan.above;
     let all = one * places(form.width, rows, count, above);
-    Most { one, all }
+    Most {
+        one: Some(one),
+        all,
+    }
 }

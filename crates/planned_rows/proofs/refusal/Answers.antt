@@ -1,11 +1,12 @@
 -- `planned_rows::refusal` meets its contract: if the most that the plan adds is within the limits, so are its rows
--- (`refusal_spared` of RefusalLaws); else, where `most_added` gave the number of rows of the filling, the contract of
--- `filled_refusal` is this one, and where it gave 0, the walk counts all rows (`refusal_counted`).
+-- (`refusal_spared` of RefusalLaws); else, where `most_added` gave the number of rows of the filling (`one_of`), the
+-- contract of `filled_refusal` is this one, and where it gave none, the walk counts all rows (`refusal_counted`).
 use native.Mathlib.Omega.{arith}
 use Rattle.lookup.specs.Bodies.{bodies_of}
 use Rattle.planned_rows.specs.Planned.{rows_after}
 use mathlib.Core.Path.{sym, ◌∙◌}
 use Rattle.store_limits.proofs.GivenLaws.{given_ok}
+use Rattle.row_bound.proofs.BoundLaws.{one_of}
 use Rattle.planned_rows.proofs.RefusalLaws.{refusal_spared, refusal_counted}
 use Rattle.planned_rows.proofs.refusal.Goals as goal
 
@@ -18,10 +19,11 @@ returns-then-is_ok c =
 
 pub filled_refusal-requires : goal.filled_refusal-requires
 filled_refusal-requires c =
-    (c.requires.0, c.requires.1, c.requires.2, c.requires.3, omega (arith, c.if-most-gt0.true), c.most_added-most.ensures.one (omega (arith, c.if-most-gt0.true)))
+    let one = one_of c.in-Some.is c.most_added-most.ensures in
+    (c.requires.0, c.requires.1, c.requires.2, c.requires.3, one.0, one.1)
 
-pub returns-then-most-gt0 : goal.returns-then-most-gt0
-returns-then-most-gt0 c = c.filled_refusal.ensures
+pub returns-in-Some : goal.returns-in-Some
+returns-in-Some c = c.filled_refusal.ensures
 
 pub returns : goal.returns
 returns c =

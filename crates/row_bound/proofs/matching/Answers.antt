@@ -1,13 +1,18 @@
--- `row_bound::matching` meets its contract: each step counts the first row that is left if it is one of them, and so
--- keeps the invariant (`counting_step` of CountLaws). At the end no row is left to count (`counting_end`).
+-- `row_bound::matching` meets its contract: `filter` keeps the numbers of the rows that are some of them and `count`
+-- counts them (`YieldsList-from_filter`, `count_from_yields_List` of the library), and they are as many as those rows
+-- (`counted_all` of CountLaws).
 use native.Mathlib.Omega.{arith}
-use Rattle.row_bound.proofs.CountLaws.{counting_step, counting_end}
+use borrow.Author.Rules.{rules}
+use borrow.Author.Tests.{tests}
+use Rattle.std.proofs.lemmas.Iterator.{YieldsList-from_range}
+use Rattle.std.proofs.lemmas.Iterator.Consumers.{YieldsList-from_filter, count_from_yields_List}
+use Rattle.row_bound.proofs.CountLaws.{row_matches, counted_all}
 use Rattle.row_bound.proofs.matching.Goals as goal
 
-pub loop-m-preserved : goal.loop-m-preserved
-loop-m-preserved c =
-    let head = c.read_head in
-    counting_step c.loop-m.invariant (omega arith) _ c.row_size-size.ensures _ head.ensures c.matches.ensures c.more-found.ensures
-
 pub returns : goal.returns
-returns c = counting_end c.loop-m.invariant (omega arith)
+returns c =
+    let a = c.args in
+    counted_all a.w a.which a.rows.now a.count c.count.result c.requires.1
+    (count_from_yields_List _ _ c.count.ensures.ran
+    (YieldsList-from_filter _ (row_matches a.w a.which a.rows.now) (YieldsList-from_range 0 a.count a.count c.filter.ensures.source (omega arith)) c.filter.ensures.closure
+    (λ x b q k. search (rules, tests))))

@@ -20,4 +20,4 @@ returns c =
     let a = c.args in
     let counted = c.filling_rows-one.ensures in
     bounds_places a.form.now a.rows.now a.count a.plan a.text.now c.requires.1
-    counted.0 counted.1 c.places.ensures
+    counted.0 c.if-one-eq0.false counted.1 c.places.ensures

@@ -1,18 +1,19 @@
 -- The particles of a model, one after the other; where each model begins.
-use Prim.Native.Nat.{ℕ, ◌+◌, ◌*◌, ◌-◌, ◌≤◌, ◌<◌}
+use Prim.Native.Nat.{ℕ, ◌+◌, ◌*◌, ◌≤◌, ◌<◌}
 use native.Mathlib.Omega.{arith}
 use native.Mathlib.Numerals.{add-one}
-use mathlib.Core.Path.{◌≡◌, refl, ap, ◌∙◌, sym}
+use mathlib.Core.Path.{◌≡◌, refl, ap}
 use mathlib.Core.Bool.{Bool, true, false, not, ◌&&◌}
-use mathlib.Core.List.{List, [], ◌∷◌}
+use mathlib.Core.List.{[], ◌∷◌}
 use lib.Dec.{eqb}
-use lib.ListN.{length, get_or, take, drop}
+use lib.ListN.{length, get_or, drop}
 use borrow.Author.Tests.{eq-eqb, ne_eqb}
 use Rattle.rules.specs.Bytes.{Bytes, all}
 use Rattle.rules.specs.Layout.{particle_size}
 use Rattle.rules.specs.Decode.{read_particle}
-use Rattle.codec.proofs.Writers.{tail_seen}
+use Rattle.std.specs.List.{list_all}
 use Rattle.codec.specs.Part.{part_of}
+use Rattle.model_check.proofs.Chunks.{particles}
 use Rattle.circle_check.specs.Members.{count_at, start_at, model_bytes, elements_of, members_in}
 use Rattle.circle_check.specs.Deep.{has_height, first_passes}
 
@@ -33,25 +34,19 @@ elements_few (a ∷ b ∷ []) h = refl
 elements_few (a ∷ b ∷ c ∷ []) h = refl
 elements_few (a ∷ b ∷ c ∷ e ∷ t) h = absurd (omega arith)
 
-all_more : (p : ℕ → Bool) (t : Bytes) → particle_size ≤ length t → all p (elements_of t) ≡ (first_passes p t && all p (elements_of (drop particle_size t)))
-all_more p t h = ap (λ (l : List ℕ). all p l) (elements_more t h) ∙ by (eqb (read_particle t).row.sort 0)
+-- ---- the particles, as `chunks_exact` gives them
+pub particles_pass : (p : ℕ → Bool) (t : Bytes) → list_all (first_passes p) (particles t) ≡ all p (elements_of t)
+unfolding elements_of particles
+particles_pass p [] = refl
+particles_pass p (a ∷ []) = refl
+particles_pass p (a ∷ b ∷ []) = refl
+particles_pass p (a ∷ b ∷ c ∷ []) = refl
+particles_pass p (a ∷ b ∷ c ∷ d ∷ t) = by (eqb a 0) (particles_pass p t)
   where
-    by : (b : Bool) → all p (elim b [ true ↦ (read_particle t).row.index ∷ elements_of (drop particle_size t) | false ↦ elements_of (drop particle_size t) ])
-        ≡ (elim b [ true ↦ p (read_particle t).row.index | false ↦ true ] && all p (elements_of (drop particle_size t)))
-    by true = refl
-    by false = refl
-
--- ---- the loop over the particles: t is left
-module _ (p : ℕ → Bool) (goal : Bool) (t : Bytes) (size : ℕ) (z : size ≡ particle_size) (e : goal ≡ all p (elements_of t)) where
-  pub settle_on : size ≤ length t → (b : Bool) → b ≡ first_passes p t → b ≡ true → goal ≡ all p (elements_of (take (length t - size) (drop size t)))
-  settle_on h b q f =
-      rw (tail_seen t size, z) (e ∙ all_more p t (omega arith) ∙ ap (λ (x : Bool). x && all p (elements_of (drop particle_size t))) (sym q ∙ f))
-
-  pub settle_no : size ≤ length t → (b : Bool) → b ≡ first_passes p t → b ≡ false → false ≡ goal
-  settle_no h b q f = sym (e ∙ all_more p t (omega arith) ∙ ap (λ (x : Bool). x && all p (elements_of (drop particle_size t))) (sym q ∙ f))
-
-  pub settle_ends : length t < size → true ≡ goal
-  settle_ends h = sym (e ∙ ap (λ (l : List ℕ). all p l) (elements_few t (omega arith)))
+    by : (z : Bool) → list_all (first_passes p) (particles t) ≡ all p (elements_of t)
+        → (elim z [ true ↦ p c | false ↦ true ] && list_all (first_passes p) (particles t)) ≡ all p (elim z [ true ↦ c ∷ elements_of t | false ↦ elements_of t ])
+    by true h = ap (λ (x : Bool). p c && x) h
+    by false h = h
 
 -- ---- one particle
 module _ (old : Bytes) (s a : ℕ) (e : s ≡ a) where

@@ -7,16 +7,16 @@ ghost use Rattle.circle_check.specs.Members.{elements_of, members_in};
 ghost use Rattle.circle_check.specs.Deep.{has_height, first_passes, raised_to, Round, Ranked};
 ghost use Rattle.circle_check.specs.Avoiding.{Avoids};
 
-use layout::MAX_DEFINITIONS;
+use layout::{MAX_DEFINITIONS, PARTICLE_SIZE};
 
-// Whether the first particle of t is a group, or an element (sort 0) whose index has a height.
-fn first_passes(t: &[u8], old: &[u8; MAX_DEFINITIONS]) -> bool
-    ensures { result ≡ first_passes (has_height old.now) t.now }
+// Whether a particle is a group, or an element (sort 0) whose index has a height.
+fn has_height(particle: &[u8], old: &[u8; MAX_DEFINITIONS]) -> bool
+    ensures { result ≡ first_passes (has_height old.now) particle.now }
 {
-    if layout::particle_sort(t) != 0 {
+    if layout::particle_sort(particle) != 0 {
         return true;
     }
-    let j = layout::particle_index(t) as usize;
+    let j = layout::particle_index(particle) as usize;
     codec::byte(old, j) != 0
 }
 
@@ -24,15 +24,9 @@ fn first_passes(t: &[u8], old: &[u8; MAX_DEFINITIONS]) -> bool
 fn members_have_heights(model: &[u8], old: &[u8; MAX_DEFINITIONS]) -> bool
     ensures { result ≡ all (has_height old.now) (elements_of model.now) }
 {
-    let size = layout::particle_size();
-    let mut t = model;
-    while t.len() >= size {
-        if !first_passes(t, old) {
-            return false;
-        }
-        t = &t[size..];
-    }
-    true
+    model
+        .chunks_exact(PARTICLE_SIZE)
+        .all(|particle| has_height(particle, old))
 }
 
 // The height of a definition after round h: the one it had, or h if all members have one.

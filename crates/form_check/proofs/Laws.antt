@@ -1,10 +1,12 @@
 -- Loops over pairs of records: what is left to compare from one on.
-use Prim.Native.Nat.{ℕ, ◌*◌, ◌≤◌, ◌<◌}
+use Prim.Native.Nat.{ℕ, zero, suc, ◌+◌, ◌-◌, ◌*◌, ◌≤◌, ◌<◌}
+use native.Mathlib.Omega.{arith}
 use lib.ListN.{take, drop}
 use borrow.Author.Tests.{le-leb, lt-leb}
-use mathlib.Core.Path.{◌≡◌, refl, sym, ap, ap₂}
+use mathlib.Core.Path.{◌≡◌, refl, sym, ap, ap₂, ◌∙◌}
 use mathlib.Core.Bool.{Bool, true, false, ◌&&◌, ◌||◌, not}
 use mathlib.Core.List.{List, [], ◌∷◌, map}
+use Rattle.std.specs.List.{list_any, range_with_len}
 use Rattle.rules.specs.Bytes.{Bytes, same, bytes, any}
 use Rattle.rules.specs.Model.{member, distinct}
 use Rattle.rules.specs.Layout.{definition_size, particle_size, attribute_size, FlatDefinition, FlatAttribute, FlatStore}
@@ -16,18 +18,23 @@ use Rattle.form_check.proofs.Reading.{definitions_length}
 use Rattle.codec.proofs.Records.{many_within}
 
 -- ---- no two alike
-module _ {A : Type 0} (c : A → A → Bool) {l rest : List A} {x : A} (e : l ≡ x ∷ rest) where
-  pub apart_off : any (c x) rest ≡ true → apart c l ≡ false
-  unfolding apart
-  apart_off h = rw (e, h)
+not-or : (a b : Bool) → not (a || b) ≡ (not a && not b)
+not-or true b = refl
+not-or false b = refl
 
-  pub apart_on : any (c x) rest ≡ false → apart c rest ≡ apart c l
-  unfolding apart
-  apart_on h = rw (e, h)
+any_listed : (test : ℕ → Bool) (js : List ℕ) → list_any test js ≡ any test js
+any_listed test [] = refl
+any_listed test (j ∷ js) = ap (λ (b : Bool). test j || b) (any_listed test js)
 
-pub apart_end : {A : Type 0} (c : A → A → Bool) {l : List A} → l ≡ [] → apart c l ≡ true
+-- no number from i on clashes with a later one
+pub none_apart : (clash : ℕ → ℕ → Bool) (n k i : ℕ) → i + k ≡ n → not (list_any (λ (j : ℕ). list_any (clash j) (range_with_len (j + 1) (n - (j + 1)))) (range_with_len i k)) ≡ apart clash (range_with_len i k)
 unfolding apart
-apart_end c e = rw e
+none_apart clash n zero i e = refl
+none_apart clash n (suc k) i e =
+    let left : n - (i + 1) ≡ k = omega (arith, e) in
+    not-or (list_any (clash i) (range_with_len (i + 1) (n - (i + 1)))) (list_any (λ (j : ℕ). list_any (clash j) (range_with_len (j + 1) (n - (j + 1)))) (range_with_len (i + 1) k))
+    ∙ ap₂ (λ (b d : Bool). not b && d) (ap (λ (l : ℕ). list_any (clash i) (range_with_len (i + 1) l)) left ∙ any_listed (clash i) (range_with_len (i + 1) k))
+    (none_apart clash n k (i + 1) (omega (arith, e)))
 
 -- ---- the tests are of this form
 named : (x : Bytes) (ds : List FlatDefinition) → member bytes x (map flat_name ds) ≡ any (λ (d : FlatDefinition). same x d.name) ds

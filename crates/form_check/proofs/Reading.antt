@@ -1,5 +1,5 @@
 -- Records of a body, one by one: their bytes where the code reads them, and what is left from one on.
-use mathlib.Core.Path.{◌≡◌, sym, ap, ◌∙◌}
+use mathlib.Core.Path.{◌≡◌, sym}
 use mathlib.Core.List.{[], ◌∷◌}
 use Prim.Native.Nat.{ℕ, ◌+◌, ◌*◌, ◌≤◌, ◌<◌}
 use native.Mathlib.Omega.{arith}
@@ -10,7 +10,6 @@ use Rattle.rules.specs.Layout.{definition_size, particle_size, attribute_size}
 use Rattle.rules.specs.Decode.{read_definition, read_particle, read_attribute}
 use Rattle.codec.specs.Part.{part_of}
 use Rattle.codec.proofs.Strings.{part_there}
-use Rattle.layout.specs.Bodies.{record_at}
 use Rattle.model_check.specs.Particles.{particles_read}
 use Rattle.model_check.proofs.Reading.{many_from}
 use Rattle.form_check.specs.Bodies.{definition_record_at, attribute_record_at, definitions, attributes}
@@ -44,12 +43,3 @@ pub particles_part : (at c n : ℕ) (s : Bytes) → at + c ≤ n → particle_si
 unfolding particles_read
 particles_part at c n s h e =
     rw (part_there (particle_size * at) (particle_size * c) s (omega arith)) (sym (many_part read_particle particle_size at c n s h))
-
--- ---- the fields of an attribute's record
-module _ (w i : ℕ) (s : Bytes) {rec : Bytes} (e : rec ≡ record_at (attribute_size w) i s) where
-  pub attribute_name_lem : {r : Bytes} → r ≡ (read_attribute rec).name → r ≡ (attribute_record_at w i s).name
-  attribute_name_lem h = h ∙ ap (λ (t : Bytes). (read_attribute t).name) e
-
--- .. and the name of a definition's
-pub definition_name_lem : (i : ℕ) (s : Bytes) {rec r : Bytes} → rec ≡ record_at definition_size i s → r ≡ (read_definition rec).name → r ≡ (definition_record_at i s).name
-definition_name_lem i s e h = h ∙ ap (λ (t : Bytes). (read_definition t).name) e

@@ -3,7 +3,8 @@ use Rattle.std.specs.Prelude.{ℕ, ◌*◌, ◌≤◌, ◌≡◌, Bool, List, []
 use Rattle.rules.specs.Bytes.{Bytes, same}
 use Rattle.rules.specs.Layout.{definition_size, particle_size, attribute_size, FlatDefinition, FlatAttribute, FlatStore}
 use Rattle.rules.specs.Decode.{read_definition, read_attribute, read_many}
-use Rattle.layout.specs.Bodies.{record_at}
+use Rattle.layout.specs.declared.Form.{Form}
+use Rattle.layout.specs.Bodies.{Width, record_at}
 use Rattle.model_check.specs.Particles.{particles_read}
 
 -- ---- bodies
@@ -42,6 +43,19 @@ form_of_bodies w n defs p parts a attrs =
       attributes = attributes w a attrs;
       rows = [];
     }
+
+-- of a form that is lent
+abbrev pub definitions_of : Form → List FlatDefinition
+definitions_of f = definitions f.definition_count f.definitions.now
+
+abbrev pub attributes_of : Form → List FlatAttribute
+attributes_of f = attributes f.width f.attribute_count f.attributes.now
+
+abbrev pub BodiesOf : Form → Type 0
+BodiesOf f = Width f.width × Bodies f.width f.definition_count f.definitions.now f.particle_count f.particles.now f.attribute_count f.attributes.now
+
+abbrev pub flat_form : Form → FlatStore
+flat_form f = form_of_bodies f.width f.definition_count f.definitions.now f.particle_count f.particles.now f.attribute_count f.attributes.now
 
 -- ---- pairs
 abbrev pub same_name : FlatDefinition → FlatDefinition → Bool

@@ -1,12 +1,12 @@
--- The bodies of a form, cut out of a byte string by its shape.
+-- The bodies of a form, cut out of a byte string.
 use Prim.Native.Nat.{ℕ}
 use mathlib.Core.Path.{◌≡◌, sym}
 use Rattle.rules.specs.Bytes.{Bytes}
 use Rattle.rules.specs.Decode.{number_at, definition_count, particle_count, attribute_count}
-use Rattle.layout.specs.declared.Shape.{Shape}
+use Rattle.layout.specs.declared.Form.{Form}
 use Rattle.layout.specs.Fields.{version_at}
-use Rattle.layout.specs.Bodies.{width_of, shape_of, ShapeOf, definition_body, particle_body, attribute_body, definitions_in, particles_in, attributes_in}
-use Rattle.layout.proofs.LayoutLaws.{by_shape}
+use Rattle.layout.specs.Form.{FormOf}
+use Rattle.layout.specs.Bodies.{width_of, definitions_in, particles_in, attributes_in}
 
 -- the version, the counts and the bodies of a form
 pub record Cut : Type 0 where
@@ -34,13 +34,17 @@ cut_of bs = record {
 pub record CutOf (bs : Bytes) (version w n : ℕ) (defs : Bytes) (p : ℕ) (parts : Bytes) (a : ℕ) (attrs : Bytes) : Type 0 where
   pub same : cut_of bs ≡ record { version = version; w = w; n = n; defs = defs; p = p; parts = parts; a = a; attrs = attrs }
 
--- the parts that a shape cuts out are those of the string
-pub cut_of_lem : {bs : Bytes} {s : Shape} → ShapeOf bs s → {defs parts attrs : Bytes} → defs ≡ definition_body s bs → parts ≡ particle_body s bs → attrs ≡ attribute_body s bs
-    → CutOf bs s.version s.width s.definitions defs s.particles parts s.attributes attrs
-unfolding shape_of
-cut_of_lem {bs} {s} x d p a =
-    let z : shape_of bs ≡ s = sym x.is in
-    let d' : definitions_in bs ≡ _ = sym (by_shape definition_body bs x d) in
-    let p' : particles_in bs ≡ _ = sym (by_shape particle_body bs x p) in
-    let a' : attributes_in bs ≡ _ = sym (by_shape attribute_body bs x a) in
-    record { same = λ i. record { version = (z i).version; w = (z i).width; n = (z i).definitions; defs = d' i; p = (z i).particles; parts = p' i; a = (z i).attributes; attrs = a' i } }
+-- the form that the string says is cut out of it
+pub cut_of_lem : {bs : Bytes} {f : Form} → FormOf bs f → CutOf bs f.version f.width f.definition_count f.definitions.now f.particle_count f.particles.now f.attribute_count f.attributes.now
+cut_of_lem k = record {
+  same = λ i. record {
+    version = sym k.version i;
+    w = sym k.width i;
+    n = sym k.definition_count i;
+    defs = sym k.definitions i;
+    p = sym k.particle_count i;
+    parts = sym k.particles i;
+    a = sym k.attribute_count i;
+    attrs = sym k.attributes i;
+  };
+}

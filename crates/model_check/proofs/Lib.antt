@@ -1,3 +1,4 @@
 pub mod Reading
-pub mod Further
+pub mod ByNumber
+pub mod Chunks
 pub mod ModelLaws

@@ -56,12 +56,7 @@ fn element_again(m: usize, parts: &[u8], i: usize) -> bool
     requires { (m ≤ 256) × (i < m) }
     ensures { result ≡ any (same_element (particle_record_at i parts.now)) (drop (i + 1) (particles_read m parts.now)) }
 {
-    for j in i + 1..m {
-        if same_element(parts, i, j) {
-            return true;
-        }
-    }
-    false
+    (i + 1..m).any(|j| same_element(parts, i, j))
 }
 
 // Whether particle i of a model can stand where depth d is allowed.

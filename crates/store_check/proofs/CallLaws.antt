@@ -23,7 +23,7 @@ use Rattle.layout.proofs.LayoutLaws.{by_shape}
 use Rattle.records.specs.Records.{definition_fits, attribute_fits, serial_fits, each_fits, header_fits}
 use Rattle.records.proofs.RecordLaws.{small_of, small_at}
 use Rattle.form_check.specs.FormTests.{bodies_fit}
-use Rattle.form_check.specs.Bodies.{Bodies, form_of_bodies}
+use Rattle.form_check.specs.Bodies.{form_of_bodies}
 use Rattle.std.specs.Prelude.{Result, is_ok}
 use Rattle.circle_check.specs.Members.{members_in}
 use Rattle.circle_check.specs.Deep.{Ranked}
@@ -52,10 +52,6 @@ pub kept : {b e : Bool} → not b ≡ false → b ≡ e → e ≡ true
 kept {b} {e} h q = sym q ∙ not-false b h
 
 -- ---- the form
-pub laid_of : {w n : ℕ} {defs : Bytes} {p : ℕ} {parts : Bytes} {a : ℕ} {attrs : Bytes} → Bodies w n defs p parts a attrs → ((i : ℕ) → Fits w8 (get_or defs i 0))
-    → ((i : ℕ) → Fits w8 (get_or attrs i 0)) → Laid w n defs p parts a attrs
-laid_of {w} {n} {defs} {p} {parts} {a} {attrs} b d c = record { bodies = b; definitions = small_of defs (λ i. omega (arith, d i)); attributes = small_of attrs (λ i. omega (arith, c i)) }
-
 pub form_by_lem : {w n : ℕ} {defs : Bytes} {p : ℕ} {parts : Bytes} {a : ℕ} {attrs : Bytes} {r : Result Bytes Bytes} {there : Bool} → Laid w n defs p parts a attrs
     → each_fits definition_fits definition_size n defs ≡ true → each_fits (attribute_fits w n) (attribute_size w) a attrs ≡ true
     → bodies_fit (form_of_bodies w n defs p parts a attrs) ≡ true → Ranked n (members_in defs parts) r → there ≡ is_ok r → (there ≡ true) ↔ FormPasses w n defs p parts a attrs

@@ -4,57 +4,32 @@
 ghost use Rattle.std.specs.Prelude.{◌≡◌, ◌↔◌, true};
 ghost use Rattle.rules.specs.Decode.{row_count};
 ghost use Rattle.rules.specs.Passing.{passes};
-ghost use Rattle.layout.specs.Bodies.{Width, width_of, ShapeOf};
+ghost use Rattle.layout.specs.Bodies.{width_of, ShapeOf};
 ghost use Rattle.records.specs.Records.{header_fits};
-ghost use Rattle.form_check.specs.Bodies.{Bodies};
 ghost use Rattle.row_check.specs.Walking.{bytes_before};
-ghost use Rattle.store_check.specs.Check.{FormPasses, FormIn, walk_answer, serials_differ};
+ghost use Rattle.store_check.specs.Check.{FormIn, walk_answer, serials_differ};
 
 use layout::Shape;
 
 // ---- the form
 
-// Whether the bodies of a form pass: each definition and attribute by itself, the bodies together, and no circle.
-fn form_fits(
-    w: usize,
-    n: usize,
-    defs: &[u8],
-    p: usize,
-    parts: &[u8],
-    a: usize,
-    attrs: &[u8],
-) -> bool
-    requires { Width w × Bodies w n defs.now p parts.now a attrs.now }
-    ensures { (result ≡ true) ↔ FormPasses w n defs.now p parts.now a attrs.now }
-{
-    if !records::definitions_fit(defs, n) {
-        return false;
-    }
-    if !records::attributes_fit(w, attrs, a, n) {
-        return false;
-    }
-    if !form_check::bodies_fit(w, n, defs, p, parts, a, attrs) {
-        return false;
-    }
-    circle_check::heights_of(n, defs, parts).is_ok()
-}
-
-fn form_passes(store: &[u8], s: Shape) -> bool
-    requires { (header_fits (width_of store.now) store.now ≡ true) × ShapeOf store.now s }
+// Whether the form passes: each definition and attribute by itself, the bodies together, and no circle.
+fn form_passes(store: &[u8]) -> bool
+    requires { header_fits (width_of store.now) store.now ≡ true }
     ensures { (result ≡ true) ↔ FormIn store.now }
 {
-    let defs = layout::definition_body(store, s);
-    let parts = layout::particle_body(store, s);
-    let attrs = layout::attribute_body(store, s);
-    form_fits(
-        s.width,
-        s.definitions,
-        defs,
-        s.particles,
-        parts,
-        s.attributes,
-        attrs,
-    )
+    let form = layout::form_of(store);
+    let n = form.definition_count;
+    if !records::definitions_fit(form.definitions, n) {
+        return false;
+    }
+    if !records::attributes_fit(form.width, form.attributes, form.attribute_count, n) {
+        return false;
+    }
+    if !form_check::bodies_fit(&form) {
+        return false;
+    }
+    circle_check::heights_of(n, form.definitions, form.particles).is_ok()
 }
 
 // ---- the rows
@@ -98,7 +73,7 @@ pub fn passes(store: &[u8]) -> bool
     if !header_check::header_fits(s.width, store) {
         return false;
     }
-    if !form_passes(store, s) {
+    if !form_passes(store) {
         return false;
     }
     if !documents_pass(store, s) {
@@ -116,5 +91,5 @@ pub fn passes_bare(store: &[u8]) -> bool
     if !header_check::header_fits(s.width, store) {
         return false;
     }
-    form_passes(store, s)
+    form_passes(store)
 }

@@ -1,35 +1,17 @@
--- `circle_check::members_have_heights` meets its contract: a first particle that does not pass makes the answer false
--- (`settle_no` of MemberLaws), one that passes leaves it to the particles after it (`settle_on`), and with no particle
--- left it is true (`settle_ends`).
-use mathlib.Core.Path.{refl}
-use native.Mathlib.Omega.{arith}
-use Prim.Native.Nat.{◌-◌}
-use lib.ListN.{length, drop, length-take, length-drop}
-use Rattle.circle_check.specs.Deep.{has_height}
-use Rattle.circle_check.proofs.MemberLaws.{settle_on, settle_no, settle_ends}
+-- `circle_check::members_have_heights` meets its contract: `all` gives whether every particle passes
+-- (`all_from_yields_List` of the library), and so whether every element has a height (`particles_pass` of MemberLaws).
+use mathlib.Core.Path.{◌∙◌}
+use borrow.Author.Rules.{rules}
+use borrow.Author.Tests.{tests}
+use Rattle.std.proofs.lemmas.Iterator.Search.{all_from_yields_List}
+use Rattle.circle_check.specs.Deep.{has_height, first_passes}
+use Rattle.model_check.proofs.Chunks.{yields_particles}
+use Rattle.circle_check.proofs.MemberLaws.{particles_pass}
 use Rattle.circle_check.proofs.members_have_heights.Goals as goal
-
-pub loop-t-init : goal.loop-t-init
-loop-t-init c = refl
-
-pub returns-then-not-first_passes : goal.returns-then-not-first_passes
-returns-then-not-first_passes c =
-    let a = c.args in
-    settle_no (has_height a.old.now) _ c.loop-t.t.now _ c.particle_size-size.ensures c.loop-t.invariant (omega arith) _
-    c.first_passes.ensures c.if-not-first_passes.true
-
-pub loop-t-smaller : goal.loop-t-smaller
-loop-t-smaller c =
-    let size = c.particle_size-size.result in
-    omega (arith, c.particle_size-size.ensures, length-take (length c.loop-t.t.now - size) (drop size c.loop-t.t.now), length-drop size c.loop-t.t.now)
-
-pub loop-t-preserved : goal.loop-t-preserved
-loop-t-preserved c =
-    let a = c.args in
-    settle_on (has_height a.old.now) _ c.loop-t.t.now _ c.particle_size-size.ensures c.loop-t.invariant (omega arith) _ c.first_passes.ensures
-    c.if-not-first_passes.false
 
 pub returns : goal.returns
 returns c =
-    let a = c.args in
-    settle_ends (has_height a.old.now) _ c.loop-t.t.now _ c.particle_size-size.ensures c.loop-t.invariant (omega arith)
+    let has = has_height c.args.old.now in
+    let new = c.chunks_exact.ensures in
+    all_from_yields_List (first_passes has) c.all.new.self _ _ c.all.ensures.ran (yields_particles new.rest new.size) (λ x b q k. search (rules, tests))
+    ∙ particles_pass has c.args.model.now

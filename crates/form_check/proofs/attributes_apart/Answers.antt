@@ -1,30 +1,21 @@
--- `form_check::attributes_apart` meets its contract. The loop's invariant: the attributes from i on are apart if and
--- only if all are.
-use mathlib.Core.Path.{refl, sym, ◌∙◌}
+-- `form_check::attributes_apart` meets its contract: no two numbers clash if and only if no two attributes do.
+use Rattle.std.proofs.Common.{rules, ℕ, ◌∙◌}
 use native.Mathlib.Omega.{arith}
 use Rattle.form_check.specs.FormTests.{clashes}
-use Rattle.form_check.specs.Bodies.{attributes}
-use Rattle.form_check.proofs.Reading.{attributes_from_lem, attributes_end}
-use Rattle.form_check.proofs.Laws.{apart_on, apart_off, apart_end, attributes_apart_lem}
+use Rattle.form_check.specs.Bodies.{attribute_record_at, attributes_of}
+use Rattle.model_check.proofs.ByNumber.{apart_from}
+use Rattle.form_check.proofs.Reading.{attributes_from_lem, attributes_length}
+use Rattle.form_check.proofs.Laws.{attributes_apart_lem}
 use Rattle.form_check.proofs.attributes_apart.Goals as goal
-
-pub loop-i-init : goal.loop-i-init
-loop-i-init c = refl
-
-pub returns-then-attribute_again : goal.returns-then-attribute_again
-returns-then-attribute_again c =
-    let a = c.args in
-    sym
-    (apart_off clashes (attributes_from_lem a.w c.loop-i.i a.a a.attrs.now (omega arith))
-    (sym c.attribute_again.ensures ∙ c.if-attribute_again.true))
-    ∙ c.loop-i.invariant ∙ attributes_apart_lem (attributes a.w a.a a.attrs.now)
-
-pub loop-i-preserved : goal.loop-i-preserved
-loop-i-preserved c =
-    let a = c.args in
-    apart_on clashes (attributes_from_lem a.w c.loop-i.i a.a a.attrs.now (omega arith)) (sym c.attribute_again.ensures ∙ c.if-attribute_again.false) ∙ c.loop-i.invariant
 
 pub returns : goal.returns
 returns c =
-    let a = c.args in
-    sym (apart_end clashes (attributes_end a.w c.loop-i.i a.a a.attrs.now (omega arith))) ∙ c.loop-i.invariant ∙ attributes_apart_lem (attributes a.w a.a a.attrs.now)
+    let form = c.args.form.now in
+    let w = form.width in
+    let n = form.attribute_count in
+    let s = form.attributes.now in
+    let attribute = λ (i : ℕ). attribute_record_at w i s in
+    c.none_clash.ensures (λ i j. clashes (attribute i) (attribute j)) (λ i j r h. search (rules, h))
+    ∙ apart_from (attributes_of form) attribute (λ i h. attributes_from_lem w i n s (omega (arith, h, attributes_length w n s))) clashes n 0
+    (omega (arith, attributes_length w n s))
+    ∙ attributes_apart_lem (attributes_of form)

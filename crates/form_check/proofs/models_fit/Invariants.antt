@@ -2,9 +2,9 @@ use mathlib.Core.Path.{◌≡◌}
 use Prim.Native.Nat.{◌≤◌}
 use lib.ListN.{drop}
 use Rattle.form_check.specs.FormTests.{models_fit}
-use Rattle.form_check.specs.Bodies.{definitions}
+use Rattle.form_check.specs.Bodies.{definitions_of}
 use Rattle.model_check.specs.Particles.{particles_read}
 use Rattle.form_check.proofs.models_fit.Given as goal
 
 abbrev pub invariant-loop-i : goal.invariant-loop-i
-invariant-loop-i l = (l.at ≤ l.p) × (models_fit l.n (drop l.i (definitions l.n l.defs)) (drop l.at (particles_read l.p l.parts)) ≡ models_fit l.n (definitions l.n l.defs) (particles_read l.p l.parts))
+invariant-loop-i l = (l.at ≤ l.form.particle_count) × (models_fit l.form.definition_count (drop l.i (definitions_of l.form)) (drop l.at (particles_read l.form.particle_count l.form.particles.now)) ≡ models_fit l.form.definition_count (definitions_of l.form) (particles_read l.form.particle_count l.form.particles.now))

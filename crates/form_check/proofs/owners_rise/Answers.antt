@@ -11,16 +11,16 @@ loop-i-init c = refl
 
 pub returns-then-o-least : goal.returns-then-o-least
 returns-then-o-least c =
-    let a = c.args in
-    sym (owners_off c.loop-i.least (attributes_from_lem a.w c.loop-i.i a.a a.attrs.now (omega arith))
-    c.attribute_owner_at-o.ensures c.if-o-least.true) ∙ c.loop-i.invariant
+    let f = c.args.form.now in
+    sym (owners_off c.loop-i.least (attributes_from_lem f.width c.loop-i.i f.attribute_count f.attributes.now (omega arith))
+    c.attribute_owner-o.ensures c.if-o-least.true) ∙ c.loop-i.invariant
 
 pub loop-i-preserved : goal.loop-i-preserved
 loop-i-preserved c =
-    let a = c.args in
-    owners_on c.loop-i.least (attributes_from_lem a.w c.loop-i.i a.a a.attrs.now (omega arith)) c.attribute_owner_at-o.ensures c.if-o-least.false ∙ c.loop-i.invariant
+    let f = c.args.form.now in
+    owners_on c.loop-i.least (attributes_from_lem f.width c.loop-i.i f.attribute_count f.attributes.now (omega arith)) c.attribute_owner-o.ensures c.if-o-least.false ∙ c.loop-i.invariant
 
 pub returns : goal.returns
 returns c =
-    let a = c.args in
-    sym (owners_end c.loop-i.least (attributes_end a.w c.loop-i.i a.a a.attrs.now (omega arith))) ∙ c.loop-i.invariant
+    let f = c.args.form.now in
+    sym (owners_end c.loop-i.least (attributes_end f.width c.loop-i.i f.attribute_count f.attributes.now (omega arith))) ∙ c.loop-i.invariant

@@ -8,5 +8,5 @@ use Rattle.form_check.proofs.same_attribute.Goals as goal
 
 pub returns : goal.returns
 returns c =
-    ap₂ (λ (a b : Bool). a && b) (ap₂ (λ (a b : ℕ). eqb a b) c.attribute_owner_at.ensures c.attribute_owner_at-2.ensures)
+    ap₂ (λ (a b : Bool). a && b) (ap₂ (λ (a b : ℕ). eqb a b) c.attribute_owner.ensures c.attribute_owner-2.ensures)
     (c.equal-named.ensures ∙ ap₂ (λ (a b : Bytes). same a b) c.attribute_name.ensures c.attribute_name-2.ensures)

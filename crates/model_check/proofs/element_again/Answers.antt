@@ -1,30 +1,24 @@
--- `model_check::element_again` meets its contract. The loop's invariant: an element from j on is that of particle i
--- if and only if one after i is.
-use mathlib.Core.Path.{sym, ◌∙◌}
+-- `model_check::element_again` meets its contract: `any` gives whether a later number's particle is that element
+-- (`any_from_yields_List` of the library), and so whether a later particle is (`some_from` of ByNumber).
+use mathlib.Core.Path.{refl, ◌∙◌}
 use native.Mathlib.Omega.{arith}
-use Rattle.model_check.specs.Particles.{particle_record_at, same_element}
-use Rattle.model_check.proofs.Reading.{particles_from_lem, particles_end}
-use Rattle.model_check.proofs.Further.{any_on, any_off, any_end}
+use borrow.Author.Rules.{rules}
+use borrow.Author.Tests.{tests}
+use Prim.Native.Nat.{ℕ, ◌-◌, ◌+◌}
+use Rattle.std.proofs.lemmas.Iterator.{YieldsList-from_range}
+use Rattle.std.proofs.lemmas.Iterator.Search.{any_from_yields_List}
+use Rattle.model_check.specs.Particles.{particle_record_at, particles_read, same_element}
+use Rattle.model_check.proofs.Reading.{particles_from_lem, particles_length}
+use Rattle.model_check.proofs.ByNumber.{some_from}
 use Rattle.model_check.proofs.element_again.Goals as goal
-
-pub returns-then-same_element : goal.returns-then-same_element
-returns-then-same_element c =
-    let a = c.args in
-    let k = c.loop-j.j in
-    sym
-    (any_on (same_element (particle_record_at a.i a.parts.now)) (particles_from_lem k a.m a.parts.now (omega arith))
-    (sym c.same_element.ensures ∙ c.if-same_element.true))
-    ∙ c.loop-j.invariant
-
-pub loop-j-preserved : goal.loop-j-preserved
-loop-j-preserved c =
-    let a = c.args in
-    let k = c.loop-j.j in
-    any_off (same_element (particle_record_at a.i a.parts.now)) (particles_from_lem k a.m a.parts.now (omega arith))
-    (sym c.same_element.ensures ∙ c.if-same_element.false)
-    ∙ c.loop-j.invariant
 
 pub returns : goal.returns
 returns c =
     let a = c.args in
-    sym (any_end (same_element (particle_record_at a.i a.parts.now)) (particles_end c.loop-j.j a.m a.parts.now (omega arith))) ∙ c.loop-j.invariant
+    let particle = λ (j : ℕ). particle_record_at j a.parts.now in
+    let is = same_element (particle a.i) in
+    let left = a.m - (a.i + 1) in
+    any_from_yields_List (λ j. is (particle j)) c.any.new.self _ _ c.any.ensures.ran
+    (YieldsList-from_range (a.i + 1) a.m left refl refl) (λ x b q k. search (rules, tests))
+    ∙ some_from (particles_read a.m a.parts.now) particle (λ j h. particles_from_lem j a.m a.parts.now (omega (arith, h, particles_length a.m a.parts.now))) is left (a.i + 1)
+    (omega (arith, particles_length a.m a.parts.now))

@@ -10,8 +10,7 @@ returns-then-not-header_fits c =
 
 pub form_passes-requires : goal.form_passes-requires
 form_passes-requires c =
-    let shape = c.shape_of-s.ensures in
-    (header_kept shape (ap not c.if-not-header_fits.false) c.header_fits.ensures, shape)
+    header_kept c.shape_of-s.ensures (ap not c.if-not-header_fits.false) c.header_fits.ensures
 
 pub returns-then-not-form_passes : goal.returns-then-not-form_passes
 returns-then-not-form_passes c =

@@ -11,8 +11,7 @@ returns-then-not-header_fits c =
 
 pub form_passes-requires : goal.form_passes-requires
 form_passes-requires c =
-    let shape = c.shape_of-s.ensures in
-    (header_kept shape (ap not c.if-not-header_fits.false) c.header_fits.ensures, shape)
+    header_kept c.shape_of-s.ensures (ap not c.if-not-header_fits.false) c.header_fits.ensures
 
 pub returns : goal.returns
 returns c =

@@ -1,7 +1,7 @@
--- `circle_check::first_passes` meets its contract: a particle of a sort other than 0 is a group, which passes
+-- `circle_check::has_height` meets its contract: a particle of a sort other than 0 is a group, which passes
 -- (`first_group` of MemberLaws), and an element passes if and only if the byte at its index is not 0 (`first_element`).
 use Rattle.circle_check.proofs.MemberLaws.{first_group, first_element}
-use Rattle.circle_check.proofs.first_passes.Goals as goal
+use Rattle.circle_check.proofs.has_height.Goals as goal
 
 pub returns-then-particle_sort-ne0 : goal.returns-then-particle_sort-ne0
 returns-then-particle_sort-ne0 c =

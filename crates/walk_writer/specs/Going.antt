@@ -4,11 +4,8 @@ use Rattle.rules.specs.Preorder.{Deep}
 use Rattle.rules.specs.Layout.{FlatRow}
 use Rattle.row_walk.specs.declared.Open.{Open}
 use Rattle.row_walk.specs.Walk.{emitted, next_open}
-use Rattle.walk_writer.specs.declared.Walker.{Walker}
-use Rattle.walk_writer.specs.Step.{step_rows, step_open, plan_filling, Ready}
-
-abbrev pub ReadyBy : Walker → Type 0
-ReadyBy k = Ready k.form.now k.text.now k.plan.now
+use Rattle.walk_writer.specs.declared.walker.Walker.{Walker}
+use Rattle.walk_writer.specs.Step.{step_rows, step_open, plan_filling}
 
 -- the filling at a depth
 abbrev pub fill_by : Walker → ℕ → List (Deep FlatRow)

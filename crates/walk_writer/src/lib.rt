@@ -11,26 +11,21 @@ ghost use Rattle.filling.specs.Parts.{fill_with, Asks, Indexed};
 ghost use Rattle.row_walk.specs.Walk.{kept_row, owed, walked, at_first};
 ghost use Rattle.row_walk.specs.Step.{row_of_head, Planned};
 ghost use Rattle.walk_writer.specs.Step.{Came, plan_filling, Settled, Ready, Near, WalkRow, Seen, WalkRows, PlainRows, Advances};
-ghost use Rattle.walk_writer.specs.Going.{ReadyBy, fill_by, come_rows, come_open, goes_rows, goes_open};
+ghost use Rattle.walk_writer.specs.Going.{fill_by, come_rows, come_open, goes_rows, goes_open};
+
+mod walker;
 
 use filling::Filling;
 use layout::Form;
 use row_walk::{Head, Open, Plan};
 use row_writer::Cursor;
+use walker::Walker;
 
 /// How many rows have been passed, and what is open after them.
 #[derive(Clone, Copy)]
 pub struct Run {
     pub count: usize,
     pub opened: Open,
-}
-
-// What a walk goes by: the form of the store, the plan, and the value of the call.
-#[derive(Clone, Copy)]
-struct Walker<'a> {
-    form: &'a Form<'a>,
-    plan: &'a Plan,
-    text: &'a [u8],
 }
 
 // ---- rows
@@ -101,8 +96,7 @@ fn plain_rows(w: usize, plan: &Plan, rows: &[u8], most: usize, o: Open) -> Run
 impl Walker<'_> {
     // The filling at a depth, if it is due: `due` is a test's answer, so that one `if` stands here for three callers.
     fn put_owed(&self, due: bool, depth: usize, c: &mut Cursor, out: &mut [u8])
-        requires { Indexed self.now.plan.now.filling
-            × Asks self.now.form.now c.old self.now.text.now self.now.form.now.definition_count depth }
+        requires { Asks self.now.form.now c.old self.now.text.now self.now.form.now.definition_count depth }
         ensures { Written self.now.form.now.width (owed due (fill_by self.now depth)) c.old out.old c.new out.new }
     {
         if due {
@@ -112,7 +106,7 @@ impl Walker<'_> {
 
     // A row that is kept, with its index after the change, and with the text where the plan gives it.
     fn put_row(&self, h: Head, row: &[u8], c: &mut Cursor, out: &mut [u8])
-        requires { ReadyBy self.now × Seen self.now.form.now.width h row.now × Room self.now.form.now.width c.old }
+        requires { Seen self.now.form.now.width h row.now × Room self.now.form.now.width c.old }
         ensures { Written self.now.form.now.width (kept_row self.now.plan.now self.now.text.now (read_row row.now) ∷ [])
             c.old out.old c.new out.new }
     {
@@ -126,7 +120,7 @@ impl Walker<'_> {
 
     // What is open after a row, where what it closes is closed.
     fn come(&self, h: Head, row: &[u8], o: Open, c: &mut Cursor, out: &mut [u8]) -> Open
-        requires { ReadyBy self.now × Seen self.now.form.now.width h row.now × Room self.now.form.now.width c.old }
+        requires { Seen self.now.form.now.width h row.now × Room self.now.form.now.width c.old }
         ensures { Came self.now.form.now.width (come_rows self.now o (read_row row.now)) (come_open self.now o (read_row row.now))
             c.old out.old c.new result out.new }
     {
@@ -142,7 +136,7 @@ impl Walker<'_> {
 
     // What is open after one row.
     fn step(&self, row: &[u8], o: Open, c: &mut Cursor, out: &mut [u8]) -> Open
-        requires { ReadyBy self.now × WalkRow self.now.form.now.width row.now × Near o × Room self.now.form.now.width c.old }
+        requires { WalkRow self.now.form.now.width row.now × Near o × Room self.now.form.now.width c.old }
         ensures { Came self.now.form.now.width (goes_rows self.now o (read_row row.now)) (goes_open self.now o (read_row row.now))
             c.old out.old c.new result out.new }
     {
@@ -159,7 +153,7 @@ impl Walker<'_> {
 
     // The rows that stay as they are, as one block, and the row after them; no more rows than may be written.
     fn pass(&self, rows: &[u8], count: usize, o: Open, c: &mut Cursor, out: &mut [u8]) -> Run
-        requires { ReadyBy self.now × WalkRows self.now.form.now.width count rows.now
+        requires { WalkRows self.now.form.now.width count rows.now
             × (row_size self.now.form.now.width * count ≤ length rows.now) × Near o × Room self.now.form.now.width c.old
             × (0 < count) × (0 < c.old.left) }
         ensures { Advances self.now.form.now.width self.now.plan.now self.now.text.now (fill_by self.now) rows.now count o
@@ -183,7 +177,7 @@ impl Walker<'_> {
 
     // The walk over `count` rows. It stops where no row may be written any more.
     fn over(&self, rows: &[u8], count: usize, c: &mut Cursor, out: &mut [u8])
-        requires { ReadyBy self.now × WalkRows self.now.form.now.width count rows.now
+        requires { WalkRows self.now.form.now.width count rows.now
             × (row_size self.now.form.now.width * count ≤ length rows.now) × Room self.now.form.now.width c.old }
         ensures { Written self.now.form.now.width
             (walked self.now.plan.now self.now.text.now (fill_by self.now) (at_first self.now.plan.now)

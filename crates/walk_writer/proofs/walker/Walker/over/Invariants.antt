@@ -3,7 +3,7 @@ use Rattle.rules.specs.Decode.{read_row, read_many}
 use Rattle.row_walk.specs.Walk.{walked, at_first}
 use Rattle.walk_writer.specs.Step.{WalkOn}
 use Rattle.walk_writer.specs.Going.{fill_by}
-use Rattle.walk_writer.proofs.Walker.over.Given as goal
+use Rattle.walk_writer.proofs.walker.Walker.over.Given as goal
 
 -- once what comes of the rows that are left is written, all is
 abbrev pub invariant-loop-m : goal.invariant-loop-m

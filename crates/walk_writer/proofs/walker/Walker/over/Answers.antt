@@ -1,8 +1,8 @@
--- `walk_writer::Walker::over` meets its contract: the invariant gives it where no row may be written any more
+-- `walk_writer::walker::Walker::over` meets its contract: the invariant gives it where no row may be written any more
 -- (`going_stop` of WalkLaws), and past the last row by the filling still due (`going_end`).
 use native.Mathlib.Omega.{arith}
 use Rattle.walk_writer.proofs.WalkLaws.{going_stop, going_end}
-use Rattle.walk_writer.proofs.Walker.over.Goals as goal
+use Rattle.walk_writer.proofs.walker.Walker.over.Goals as goal
 
 pub returns-then-c-eq0 : goal.returns-then-c-eq0
 returns-then-c-eq0 c =

@@ -18,6 +18,7 @@ pub struct Cursor {
 }
 
 /// A new row, which gets the next serial.
+// `sort` is the byte, and no RowSort: the clause of `put_new` speaks of every byte.
 pub fn put_new(
     w: usize,
     sort: u8,

@@ -22,6 +22,7 @@ use rules::{AttributeSort, GroupKind, Quantifier, RowSort};
 
 /// What a change fills with: nothing, a definition by its index, one row of an attribute by its index, or a group of a
 /// kind by the number of its first member in the particle body and the depth of its members.
+// `Nothing` is one of four cases that `put_filling` answers at once; as an Option it would be asked apart.
 #[derive(Clone, Copy)]
 pub enum Filling {
     Nothing,

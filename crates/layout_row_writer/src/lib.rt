@@ -1,4 +1,5 @@
-//! The row of a store, written: as far as the buffer goes, saying where the next bytes go.
+//! The row of a store, written: as far as the buffer goes, saying where the next bytes go. The place `at` stands beside
+//! the buffer and no tail is lent: it may lie past the end, where the bytes are only counted.
 #![tactic(auto)]
 
 ghost use Rattle.std.specs.Prelude.{◌≡◌, [], ◌∷◌, ◌++◌, ◌+◌, ◌<◌, ◌≤◌, ◌^◌, length, take, replicate};

@@ -12,6 +12,8 @@ use rules::RowSort;
 
 /// Some rows: none; every row, and what stands above the documents; that alone; the elements of a definition; the rows
 /// of an attribute; the element with a serial.
+// `Nothing` is one of six cases that `matches` answers at once; as an Option it would be asked apart. So is `Never`
+// below.
 #[derive(Clone, Copy, PartialEq, Eq)]
 pub enum Which {
     Nothing,
@@ -45,6 +47,7 @@ pub struct Shift {
 /// stands before a place in a model, 2 if it stands at the place, else 0. `spares`: where an element at the place is
 /// the first later row, no filling comes. `keeps`: no row is taken up to the first that is later. The row with serial
 /// `set` gets the call's value.
+// `marks` is an array, as there is no heap. The flags stay flags: a plan sets each by itself, and they are read in tests.
 #[derive(Clone, Copy)]
 pub struct Plan {
     pub above: Which,

@@ -79,6 +79,7 @@ fn member_accepts_nothing(t: &[u8], d: usize) -> bool
     if is_optional(t) {
         return true;
     }
+    // The code is that of an element, else that of the group's kind, which its conversion reads.
     let sort = layout::particle_sort(t);
     if sort == 0 {
         return false;
@@ -124,6 +125,7 @@ fn fills_nothing(s: &[u8], d: usize, kind: GroupKind) -> bool
 }
 
 // Whether the particle that t begins with is an element that must be there.
+// By the code 0 of an element: a `What` would be read with an index or a kind, of which nothing is asked here.
 fn is_needed(t: &[u8]) -> bool
     ensures { result ≡ element_needed (get_or t.now particle_sort_at 0) (quantifier_of (get_or t.now particle_quantifier_at 0)) }
 {

@@ -17,6 +17,7 @@ pub fn adding_plan(store: &[u8], owner: u32, i: usize, sort: AttributeSort) -> P
     plans::add_attribute_plan(version, owner as usize, i, sort)
 }
 
+// As in document_rows, on which this crate does not stand: three calls are no reason to.
 fn owner_of(store: &[u8], attribute: usize) -> usize
     requires { (attribute < length (bodies_of store.now).attributes) × (attribute < 64) }
     ensures { result ≡ owner_at attribute (bodies_of store.now).attributes }

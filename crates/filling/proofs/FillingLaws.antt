@@ -84,6 +84,10 @@ kind_model zero h = let z : ◌≡◌ {A = ℕ} 0 2 = ap kind_number h in absurd
 kind_model (suc zero) h = let z : ◌≡◌ {A = ℕ} 1 2 = ap kind_number h in absurd (omega arith)
 kind_model (suc (suc k)) h = omega arith
 
+-- ---- a new row of sort m, written with the code k that the sort is converted to
+pub sort_written : {w k m d j : ℕ} {v : Bytes} {c r : Cursor} {out out' : Bytes} → k ≡ m → Written w (new_row k d j v ∷ []) c out r out' → Written w (new_row m d j v ∷ []) c out r out'
+sort_written {d = d} {j = j} {v = v} e p = written_as (ap (λ (s : ℕ). new_row s d j v ∷ []) (sym e)) p
+
 -- ---- attributes
 module _ (F : IndexForm) (value : ℕ → Bytes) (d i : ℕ) where
   required_last : (j n : ℕ) → required_rows F value d i j (suc n) ≡ required_rows F value d i j n ++ required_rows F value d i (j + n) 1
@@ -129,6 +133,7 @@ module _ (F : Form) (d i : ℕ) where
       → Written F.width (required_at F d i j) c out c out
   spare_written j e f = written_as (required_at_lem j e ∙ ap (λ (z : Bool). row_if z (new_attribute_row d j (values_in F j))) f) written_none
 
+  -- the code of a sort, as its conversion gives it
   pub needed_written : (j : ℕ) {b : Bool} {v : Bytes} {c r : Cursor} {out out' : Bytes}
       → b ≡ (eqb (attribute_in F.width F.attributes.now j).owner i && must_be_present F.version (sort_of (attribute_in F.width F.attributes.now j).sort)) → b ≡ true → v ≡ values_in F j
       → Written F.width (new_row 2 d j v ∷ []) c out r out'

@@ -1,12 +1,12 @@
 -- Where no element must be there, groups fill with nothing; and the scan for one that must.
-use Prim.Native.Nat.{ℕ, zero, suc, ◌-◌, ◌<◌, ◌≤◌}
+use Prim.Native.Nat.{ℕ, zero, suc, ◌<◌, ◌≤◌}
 use native.Mathlib.Omega.{arith}
 use borrow.Author.Tests.{lt-ltb, le-ltb, ne_eqb, ltb-true}
-use mathlib.Core.Path.{◌≡◌, refl, sym, ap₂}
+use mathlib.Core.Path.{◌≡◌, refl, sym, ap, ap₂, ◌∙◌}
 use mathlib.Core.Bool.{Bool, true, false, not, ◌||◌, false≢true}
 use mathlib.Core.List.{List, [], ◌∷◌}
 use lib.Dec.{ltb, eqb}
-use lib.ListN.{length, take, drop, get_or}
+use lib.ListN.{length, drop, get_or}
 use Rattle.rules.specs.declared.GroupKind.{GroupKind}
 use Rattle.rules.specs.declared.GroupKind.TheVariants.{Sequence, Choice}
 use Rattle.rules.specs.Bytes.{Bytes}
@@ -15,7 +15,6 @@ use Rattle.rules.specs.Store.{bare, tree}
 use Rattle.rules.specs.Preorder.{Deep, build}
 use Rattle.rules.specs.Layout.{particle_size, FlatParticle}
 use Rattle.rules.specs.Decode.{quantifier_of, group_of}
-use Rattle.codec.proofs.Writers.{tail_seen}
 use Rattle.layout.specs.Fields.{particle_depth_at, particle_quantifier_at, particle_sort_at}
 use Rattle.model.specs.Members.{index_member, index_members, particles_of, members_from}
 use Rattle.model.proofs.MembersLaws.{particles_few, particles_more}
@@ -128,5 +127,5 @@ module _ (d : ℕ) (s : Bytes) where
       pub no_element_stop : b ≡ true → no_element_needed d s ≡ false
       no_element_stop y = rw y at within_more
 
-      pub no_element_on : b ≡ false → no_element_needed d s ≡ no_element_needed d (take (length s - particle_size) (drop particle_size s))
-      no_element_on y = rw (tail_seen s particle_size) (rw y at within_more)
+      pub no_element_on : b ≡ false → {t : Bytes} → t ≡ drop particle_size s → no_element_needed d s ≡ no_element_needed d t
+      no_element_on y e = (rw y at within_more) ∙ ap (no_element_needed d) (sym e)

@@ -129,7 +129,8 @@ pub record Asks (F : Form) (c : Cursor) (txt : Bytes) (h d : ℕ) : Type 0 where
   pub attributes : F.attribute_count ≤ 64
   pub deep : d + h < 256
 
--- an index that its reader or its row takes
+-- an index that its reader or its row takes; a clause, and no ghost field: the functions that make plans take every
+-- index
 abbrev pub Indexed : Filling → Type 0
 Indexed Nothing = Unit {0}
 Indexed (Definition i) = i ≤ 256

@@ -18,10 +18,11 @@ use form_index::Kind;
 use layout::{Form, PARTICLE_SIZE};
 use model::What;
 use row_writer::Cursor;
-use rules::{AttributeSort, GroupKind, Quantifier};
+use rules::{AttributeSort, GroupKind, Quantifier, RowSort};
 
 /// What a change fills with: nothing, a definition by its index, one row of an attribute by its index, or a group of a
 /// kind by the number of its first member in the particle body and the depth of its members.
+// `Nothing` is one of four cases that `put_filling` answers at once; as an Option it would be asked apart.
 #[derive(Clone, Copy)]
 pub enum Filling {
     Nothing,
@@ -78,6 +79,7 @@ fn member_accepts_nothing(t: &[u8], d: usize) -> bool
     if is_optional(t) {
         return true;
     }
+    // The code is that of an element, else that of the group's kind, which its conversion reads.
     let sort = layout::particle_sort(t);
     if sort == 0 {
         return false;
@@ -123,6 +125,7 @@ fn fills_nothing(s: &[u8], d: usize, kind: GroupKind) -> bool
 }
 
 // Whether the particle that t begins with is an element that must be there.
+// By the code 0 of an element: a `What` would be read with an index or a kind, of which nothing is asked here.
 fn is_needed(t: &[u8]) -> bool
     ensures { result ≡ element_needed (get_or t.now particle_sort_at 0) (quantifier_of (get_or t.now particle_quantifier_at 0)) }
 {
@@ -134,17 +137,14 @@ fn is_needed(t: &[u8]) -> bool
 fn needs_no_element(s: &[u8], d: usize) -> bool
     ensures { result ≡ no_element_needed d s.now }
 {
-    // By hand, as the loops over the same particles that read on from the tail: one form is plainer than two.
-    let mut t = s;
-    while t.len() >= PARTICLE_SIZE {
-        let own = layout::particle_depth(t) as usize;
+    for particle in s.chunks_exact(PARTICLE_SIZE) {
+        let own = layout::particle_depth(particle) as usize;
         if own < d {
             return true;
         }
-        if is_needed(t) {
+        if is_needed(particle) {
             return false;
         }
-        t = &t[PARTICLE_SIZE..];
     }
     true
 }
@@ -170,7 +170,7 @@ fn put_attribute(form: &Form<'_>, i: usize, j: usize, depth: usize, c: &mut Curs
     let w = form.width;
     if form_index::needs(form.version, w, form.attributes, i, j) {
         let value = created_value(w, form.attributes, j);
-        row_writer::put_new(w, 2, depth, j, value, c, out);
+        row_writer::put_new(w, u8::from(RowSort::Attribute), depth, j, value, c, out);
     }
 }
 
@@ -283,7 +283,7 @@ fn put_definition(
         return;
     }
     let w = form.width;
-    row_writer::put_new(w, 1, depth, i, &text[..0], c, out);
+    row_writer::put_new(w, u8::from(RowSort::Element), depth, i, &text[..0], c, out);
     put_required(form, i, depth + 1, c, out);
     put_below(i, form, text, h - 1, depth + 1, c, out)
 }
@@ -305,7 +305,15 @@ fn put_below(
 {
     match form_index::content_kind(form.definitions, i) {
         Kind::Empty => {}
-        Kind::Pcdata => row_writer::put_new(form.width, 3, depth, 0, text, c, out),
+        Kind::Pcdata => row_writer::put_new(
+            form.width,
+            u8::from(RowSort::Text),
+            depth,
+            0,
+            text,
+            c,
+            out,
+        ),
         Kind::Complex => {
             let s = form_index::model_part(form.definitions, form.particles, i);
             if needs_no_element(s, 0) {
@@ -357,7 +365,15 @@ pub fn put_filling(
     match what {
         Filling::Nothing => {}
         Filling::Definition(i) => put_definition(i, form, text, h, depth, c, out),
-        Filling::Attribute(j) => row_writer::put_new(form.width, 2, depth, j, text, c, out),
+        Filling::Attribute(j) => row_writer::put_new(
+            form.width,
+            u8::from(RowSort::Attribute),
+            depth,
+            j,
+            text,
+            c,
+            out,
+        ),
         Filling::Particles(k, first, d) => put_members(k, first, d, form, text, h, depth, c, out),
     }
 }

@@ -186,12 +186,7 @@ pub fn row_sort(row: &[u8]) -> u8
 pub fn row_sort_of(row: &[u8]) -> Option<RowSort>
     ensures { result ≡ read_sort (read_row row.now).row.sort }
 {
-    match row_sort(row) {
-        1 => Some(RowSort::Element),
-        2 => Some(RowSort::Attribute),
-        3 => Some(RowSort::Text),
-        _ => None,
-    }
+    RowSort::read(row_sort(row))
 }
 
 pub fn row_depth(row: &[u8]) -> u8

@@ -45,6 +45,12 @@ part_stored l w at h =
     ap (λ (s : Bytes). take at l ++ (w ++ s)) (drop-drop (length w) at l)
     ∙ sym (sets-eq w l at h ∙ append_assoc (take at l) w (drop (at + length w) l))
 
+-- bytes copied over the front of a buffer
+pub front_laid : (w l s : Bytes) {n : ℕ} → n ≡ length w → n ≤ length l → s ≡ w → Laid w l 0 n (s ++ drop n l)
+front_laid w l s {n} e h q =
+    let z : 0 + length w ≡ n = omega (arith, e) in
+    record { next = sym z; stored = ap (λ (x : Bytes). x ++ drop n l) q ∙ ap (λ (i : ℕ). w ++ drop i l) (sym z) ∙ sym (sets-eq w l 0 (omega (arith, e))) }
+
 -- ---- a row
 module _ (w sort depth index serial : ℕ) (value : Bytes) (small : length value ≤ w) where
   bytes_are : row_bytes w (row_of sort depth index serial value) ≡ (row_start sort depth index serial ++ (length value ∷ 0 ∷ [])) ++ (value ++ replicate (2 + w - length value) 0)

@@ -1,4 +1,5 @@
-//! The row of a store, written: as far as the buffer goes, saying where the next bytes go.
+//! The row of a store, written: as far as the buffer goes, saying where the next bytes go. The place `at` stands beside
+//! the buffer and no tail is lent: it may lie past the end, where the bytes are only counted.
 #![tactic(auto)]
 
 ghost use Rattle.std.specs.Prelude.{◌≡◌, [], ◌∷◌, ◌++◌, ◌+◌, ◌<◌, ◌≤◌, ◌^◌, length, take, replicate};
@@ -20,7 +21,8 @@ pub fn put_zeros(n: usize, out: &mut [u8], at: usize) -> usize
     next
 }
 
-// The fields of a row before the length of its value. A serial past four bytes is refused by the caller.
+// The fields of a row before the length of its value. A serial past four bytes is refused by the caller. Here and below
+// `sort` is the byte, and no RowSort: the clause of `put_row` speaks of every byte.
 fn put_row_start(sort: u8, depth: u8, index: u32, serial: usize, out: &mut [u8], at: usize) -> usize
     requires { at + 8 < 9223372036854775808 }
     ensures { Laid (row_start sort depth index serial) out.old at result out.new }
@@ -48,16 +50,19 @@ fn lay_head(sort: u8, depth: u8, index: usize, serial: usize, n: u8, row: &mut [
     requires { 10 ≤ length row.old }
     ensures { Laid (row_start sort depth index serial ++ (n ∷ 0 ∷ [])) row.old 0 10 row.new }
 {
-    row[0] = sort;
-    row[1] = depth;
-    row[2] = (index % 256) as u8;
-    row[3] = (index / 256 % 256) as u8;
-    row[4] = (serial % 256) as u8;
-    row[5] = (serial / 256 % 256) as u8;
-    row[6] = (serial / 256 / 256 % 256) as u8;
-    row[7] = (serial / 256 / 256 / 256 % 256) as u8;
-    row[8] = n;
-    row[9] = 0;
+    let head = [
+        sort,
+        depth,
+        (index % 256) as u8,
+        (index / 256 % 256) as u8,
+        (serial % 256) as u8,
+        (serial / 256 % 256) as u8,
+        (serial / 256 / 256 % 256) as u8,
+        (serial / 256 / 256 / 256 % 256) as u8,
+        n,
+        0,
+    ];
+    row[..10].copy_from_slice(&head);
 }
 
 // Writes a row over a buffer of just its size.

@@ -12,7 +12,8 @@ use Rattle.row_walk.specs.Step.{Planned}
 abbrev pub walk_from : ℕ → Bytes → Cursor
 walk_from at bs = record { at = at; left = 4097; serial = number_at next_at 4 bs }
 
--- the numbers of a plan are small enough for the walk
+-- the numbers of a plan are small enough for the walk; a clause, and no ghost field of Plan: the functions that make
+-- plans take every index
 pub record Sized (p : Plan) : Type 0 where
   pub moves : Planned p
   pub filling : Indexed p.filling

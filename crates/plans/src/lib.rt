@@ -150,6 +150,8 @@ fn gain_filling(gain: bool, filling: Filling) -> Filling
 }
 
 /// 5 and 8: a cut takes the elements of a definition but the first, a gain brings a filling where none stands.
+// `cut` and `gain` are answers of tests, and what they stand beside is known where they are false: as Options both would
+// be made by `then_some`, to be taken apart here.
 pub fn requantify_plan(
     owner: usize,
     marks: [u8; 64],

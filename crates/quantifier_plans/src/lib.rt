@@ -49,6 +49,7 @@ fn group_plan(store: &[u8], part: &[u8], owner: usize, h: Holder, p: usize, new:
 }
 
 /// The plan of a new quantifier for the group, or else the element, at particle p of the list h in the owner's part.
+// `group` stays a flag: calls 5 and 8 share the rest of their code and differ in it alone.
 pub fn new_plan(
     store: &[u8],
     part: &[u8],

@@ -49,6 +49,7 @@ pub record Planned (p : Plan) : Type 0 where
   pub definitions : Moves p.definitions
   pub attributes : Moves p.attributes
 
+-- a clause, and no ghost field of Head: `read_head` reads every row, also one with larger numbers
 pub record Fair (h : Head) : Type 0 where
   pub depth : h.depth ≤ 80
   pub index : h.index ≤ 1000

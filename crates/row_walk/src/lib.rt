@@ -2,14 +2,18 @@
 //! over the rows makes by it.
 #![tactic(auto)]
 
-ghost use Rattle.std.specs.Prelude.{◌≡◌, ◌+◌, ◌≤◌};
+ghost use Rattle.std.specs.Prelude.{◌≡◌, ◌+◌, ◌≤◌, eqb};
+ghost use Rattle.rules.specs.RowSorts.{row_number};
 ghost use Rattle.row_walk.specs.Walk.{matches, is_later, spared, shifted, moved_index, is_set, is_below_taken, closes, closed, is_below, is_taken, is_filled, after_taken, at_first};
 ghost use Rattle.row_walk.specs.Step.{valueless, kept_with, ends_due, is_plain, Moves, Fair};
 
 use filling::Filling;
+use rules::RowSort;
 
 /// Some rows: none; every row, and what stands above the documents; that alone; the elements of a definition; the rows
 /// of an attribute; the element with a serial.
+// `Nothing` is one of six cases that `matches` answers at once; as an Option it would be asked apart. So is `Never`
+// below.
 #[derive(Clone, Copy, PartialEq, Eq)]
 pub enum Which {
     Nothing,
@@ -43,6 +47,7 @@ pub struct Shift {
 /// stands before a place in a model, 2 if it stands at the place, else 0. `spares`: where an element at the place is
 /// the first later row, no filling comes. `keeps`: no row is taken up to the first that is later. The row with serial
 /// `set` gets the call's value.
+// `marks` is an array, as there is no heap. The flags stay flags: a plan sets each by itself, and they are read in tests.
 #[derive(Clone, Copy)]
 pub struct Plan {
     pub above: Which,
@@ -67,13 +72,23 @@ pub struct Open {
     pub due: bool,
 }
 
-/// What the walk reads of a row.
+/// What the walk reads of a row. Of the sort it keeps the byte, as `read_head` gives back each row, also one whose byte
+/// is no sort's.
 #[derive(Clone, Copy)]
 pub struct Head {
     pub depth: usize,
     pub sort: u8,
     pub index: usize,
     pub serial: u32,
+}
+
+impl Head {
+    // Whether the row is one of a sort.
+    fn is(&self, sort: RowSort) -> bool
+        ensures { result ≡ eqb self.now.sort (row_number sort) }
+    {
+        RowSort::read(self.sort) == Some(sort)
+    }
 }
 
 // ---- tests of one row
@@ -86,9 +101,9 @@ pub fn matches(w: Which, h: Head) -> bool
         Which::Nothing => false,
         Which::Everything => true,
         Which::Ground => false,
-        Which::Elements(i) => (h.sort == 1) & (h.index == i),
-        Which::Attributes(j) => (h.sort == 2) & (h.index == j),
-        Which::Serial(k) => (h.sort == 1) & (h.serial == k),
+        Which::Elements(i) => h.is(RowSort::Element) & (h.index == i),
+        Which::Attributes(j) => h.is(RowSort::Attribute) & (h.index == j),
+        Which::Serial(k) => h.is(RowSort::Element) & (h.serial == k),
     }
 }
 
@@ -99,8 +114,8 @@ pub fn is_later(plan: &Plan, h: Head) -> bool
     match plan.later {
         Later::Never => false,
         Later::Row(k) => h.serial == k,
-        Later::Past(j) => !((h.sort == 2) & (h.index < j)),
-        Later::Unmarked => (h.sort == 1) & !(codec::byte(&plan.marks, h.index) == 1),
+        Later::Past(j) => !(h.is(RowSort::Attribute) & (h.index < j)),
+        Later::Unmarked => h.is(RowSort::Element) & !(codec::byte(&plan.marks, h.index) == 1),
     }
 }
 
@@ -108,7 +123,7 @@ pub fn is_later(plan: &Plan, h: Head) -> bool
 fn spared(plan: &Plan, h: Head) -> bool
     ensures { result ≡ spared plan.now (valueless h).row }
 {
-    plan.spares & ((h.sort == 1) & (codec::byte(&plan.marks, h.index) == 2))
+    plan.spares & (h.is(RowSort::Element) & (codec::byte(&plan.marks, h.index) == 2))
 }
 
 // ---- renumbering
@@ -128,13 +143,11 @@ pub fn moved_index(plan: &Plan, h: Head) -> usize
     requires { Moves plan.now.definitions × Moves plan.now.attributes × Fair h }
     ensures { (result ≡ moved_index plan.now (valueless h).row) × (result ≤ 2000) }
 {
-    if h.sort == 1 {
-        return shifted(plan.definitions, h.index);
+    match RowSort::read(h.sort) {
+        Some(RowSort::Element) => shifted(plan.definitions, h.index),
+        Some(RowSort::Attribute) => shifted(plan.attributes, h.index),
+        _ => h.index,
     }
-    if h.sort == 2 {
-        return shifted(plan.attributes, h.index);
-    }
-    h.index
 }
 
 /// Whether a row gets the call's value.

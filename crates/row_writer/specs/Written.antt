@@ -30,7 +30,8 @@ numbered n (x ∷ xs) = with_serial n x ∷ numbered (n + is_new_row x) xs
 unfoldable pub rows_bytes : ℕ → ℕ → List (Deep FlatRow) → Bytes
 rows_bytes w n xs = each (row_bytes w) (numbered n xs)
 
--- there is room in the numbers for all that may be written
+-- there is room in the numbers for all that may be written; a clause, and no ghost field of Cursor: it speaks of the
+-- width too
 pub record Room (w : ℕ) (c : Cursor) : Type 0 where
   pub places : c.at + row_size w * c.left < 4611686018427387904
   pub serials : c.serial + c.left < 4611686018427387904
@@ -53,7 +54,7 @@ pub record Written (w : ℕ) (xs : List (Deep FlatRow)) (c : Cursor) (out : Byte
 abbrev pub new_row : ℕ → ℕ → ℕ → Bytes → Deep FlatRow
 new_row sort depth index value = row_of sort depth index 0 value
 
--- the bytes are those of a row that has a serial
+-- the bytes are those of a row that has a serial; a clause: rows are lent as bytes, of which there is no type
 pub record OldRow (w : ℕ) (row : Bytes) : Type 0 where
   pub written : row_bytes w (read_row row) ≡ row
   pub old : 1 ≤ (read_row row).row.serial

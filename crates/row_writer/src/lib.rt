@@ -18,6 +18,7 @@ pub struct Cursor {
 }
 
 /// A new row, which gets the next serial.
+// `sort` is the byte, and no RowSort: the clause of `put_new` speaks of every byte.
 pub fn put_new(
     w: usize,
     sort: u8,
@@ -51,6 +52,7 @@ pub fn put_kept(w: usize, row: &[u8], index: usize, c: &mut Cursor, out: &mut [u
 }
 
 /// An old row with another index and another value.
+// It stays beside `put_kept`: one function for both would take the value as an Option, to tell them apart again.
 pub fn put_valued(w: usize, row: &[u8], index: usize, value: &[u8], c: &mut Cursor, out: &mut [u8])
     requires { Width w × Room w c.old × OldRow w row.now × (index < 65536) × (length value.now ≤ w) }
     ensures { Written w (valued_row index value.now row.now ∷ []) c.old out.old c.new out.new }

@@ -4,7 +4,7 @@
 ghost use Rattle.std.specs.Prelude.{◌≡◌};
 ghost use Rattle.rules.specs.Layout.{quantifier_code, group_code, sort_code};
 ghost use Rattle.rules.specs.Decode.{quantifier_of, group_of, sort_of};
-ghost use Rattle.rules.specs.RowSorts.{row_number};
+ghost use Rattle.rules.specs.RowSorts.{row_number, read_sort};
 ghost use Rattle.rules.specs.Given.{refusal_number};
 
 /// How often a particle may stand.
@@ -105,6 +105,20 @@ pub enum RowSort {
     Element = 1,
     Attribute = 2,
     Text = 3,
+}
+
+impl RowSort {
+    /// The sort whose code this is in the store; none for a code that no sort has.
+    pub fn read(code: u8) -> Option<RowSort>
+        ensures { result ≡ read_sort code }
+    {
+        match code {
+            1 => Some(RowSort::Element),
+            2 => Some(RowSort::Attribute),
+            3 => Some(RowSort::Text),
+            _ => None,
+        }
+    }
 }
 
 impl From<RowSort> for u8 {

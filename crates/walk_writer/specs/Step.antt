@@ -49,6 +49,7 @@ pub record Ready (F : Form) (txt : Bytes) (p : Plan) : Type 0 where
   pub plan : Planned p
   pub filling : Indexed p.filling
 
+-- how deep the open row stands; a clause, and no ghost field of Open: the functions of row_walk take every Open
 pub record Near (o : Open) : Type 0 where
   pub below : row_depth o ≤ 81
 

@@ -16,7 +16,7 @@ use Rattle.rules.specs.declared.GroupKind.TheVariants.{Sequence}
 use Rattle.row_writer.proofs.WrittenLaws.{written_stop, written_room}
 use Rattle.filling.proofs.FillingLaws.{kind_none, kind_text, kind_model, rest_starts, rest_past, rest_here, rest_on, rest_first, rest_over, rest_ends, member_skips, member_element}
 use Rattle.filling.proofs.FillingLaws.{member_empty, member_nothing_lem, member_group, definition_low, definition_written, below_none, below_text, below_group}
-use Rattle.filling.proofs.FillingLaws.{none_written, one_written, same_written, index_small, rank_particles, rank_part, rank_height}
+use Rattle.filling.proofs.FillingLaws.{sort_written, none_written, one_written, same_written, index_small, rank_particles, rank_part, rank_height}
 use Rattle.filling.proofs.FillingLaws.{part_short, below_nothing, filled_list, filled_choice, kind_choice, kind_list}
 use Rattle.filling.proofs.NeededLaws.{no_element_filled}
 use native.Mathlib.Omega.{arith}
@@ -52,7 +52,7 @@ put_below-returns-in-Empty t c =
 pub put_below-returns-in-Pcdata : goal.put_below-returns-in-Pcdata
 put_below-returns-in-Pcdata t c =
     let a = c.args in
-    below_text a.form.now a.text.now a.h a.depth a.i _ refl (kind_text _ (sym c.content_kind.ensures ∙ c.in-Pcdata.is)) c.put_new.ensures
+    below_text a.form.now a.text.now a.h a.depth a.i _ refl (kind_text _ (sym c.content_kind.ensures ∙ c.in-Pcdata.is)) (sort_written c.from.ensures c.put_new.ensures)
 
 pub put_below-returns-else-needs_no_element : goal.put_below-returns-else-needs_no_element
 put_below-returns-else-needs_no_element t c =
@@ -112,8 +112,7 @@ put_definition-returns t c =
     let a =
     c.args in
     definition_written a.form.now a.text.now a.h a.depth a.i (λ e. omega arith)
-    c.put_new.ensures
-    c.put_required.ensures c.put_below.ensures
+    (sort_written c.from.ensures c.put_new.ensures) c.put_required.ensures c.put_below.ensures
 
 pub put_group-loop-t-init : goal.put_group-loop-t-init
 put_group-loop-t-init t c =

@@ -1,7 +1,7 @@
 -- `filling::put_filling` meets its contract: in each case of `what` the rows that are written are those of `fill_with`
 -- (`nothing_filled`, `definition_filled`, `attribute_filled`, `particles_filled` of FillingLaws).
 use native.Mathlib.Omega.{arith}
-use Rattle.filling.proofs.FillingLaws.{nothing_filled, definition_filled, attribute_filled, particles_filled, filled_definition, filled_attribute, filled_particles}
+use Rattle.filling.proofs.FillingLaws.{sort_written, nothing_filled, definition_filled, attribute_filled, particles_filled, filled_definition, filled_attribute, filled_particles}
 use Rattle.filling.proofs.put_filling.Goals as goal
 
 pub put_definition-requires : goal.put_definition-requires
@@ -31,7 +31,7 @@ returns-in-Definition c =
 pub returns-in-Attribute : goal.returns-in-Attribute
 returns-in-Attribute c =
     let a = c.args in
-    attribute_filled a.form.now a.what a.text.now a.depth _ c.in-Attribute.is c.put_new.ensures
+    attribute_filled a.form.now a.what a.text.now a.depth _ c.in-Attribute.is (sort_written c.from.ensures c.put_new.ensures)
 
 pub returns-in-Particles : goal.returns-in-Particles
 returns-in-Particles c =

@@ -11,8 +11,8 @@ use Rattle.rules.specs.Model.{Members}
 use Rattle.rules.specs.Lines.{serial_at}
 use Rattle.model.specs.Steps.{runs}
 use Rattle.document_rows.specs.Finding.{children_at, children_below, model_at, fits_at, has_place, serial_in, word}
-use Rattle.document_rows.specs.Coming.{RowsIn}
-use Rattle.document_rows.specs.declared.tree.Rows.{Rows}
+use Rattle.layout.specs.Rows.{RowsIn}
+use Rattle.layout.specs.declared.rows.Rows.{Rows}
 
 pub children_read : (bs : Bytes) (s i : ℕ) {r : Rows} → RowsIn bs r → children_below r.width r.bytes.now r.count s i ≡ children_at bs s i
 children_read bs s i e = λ j. children_below (e.width j) (e.bytes j) (e.count j) s i

@@ -7,7 +7,7 @@ ghost use Rattle.rules.specs.Lines.{serial_at, children_of, is_element_row, is_t
 ghost use Rattle.rules.specs.Passing.{passes};
 ghost use Rattle.rules.specs.Refusal.{no_element, rows_of};
 ghost use Rattle.rules.specs.Layout.{row_size};
-ghost use Rattle.rules.specs.Decode.{read_row, row_count};
+ghost use Rattle.rules.specs.Decode.{read_row};
 ghost use Rattle.layout.specs.Bodies.{width_of, record_at, attributes_in, tree_rows_in};
 ghost use Rattle.form_index.specs.Reading.{attribute_in};
 ghost use Rattle.store_laws.specs.Stores.{store_in};
@@ -15,14 +15,15 @@ ghost use Rattle.model.specs.Members.{all_members};
 ghost use Rattle.model.specs.Steps.{runs};
 ghost use Rattle.document_rows.specs.Finding.{Begins, ElementRowAt, ParentAt, RowOf, children_at, row_definition_kind, model_at, fits_at};
 ghost use Rattle.document_rows.specs.Finding.{has_place, element_row_with, is_this, is_parent, seek, serial_in, serial_of_index, word};
-ghost use Rattle.document_rows.specs.Coming.{coming, RowsIn};
+ghost use Rattle.document_rows.specs.Coming.{coming};
 ghost use Rattle.lookup.specs.Bodies.{rows_from};
 
 mod nexts;
 mod tree;
 
+use layout::rows::Rows;
 use nexts::Nexts;
-use tree::{Children, Rows};
+use tree::Children;
 
 // The codes of the sorts of rows.
 const ELEMENT: u8 = 1;
@@ -65,7 +66,7 @@ fn parent_at(rows: Rows, element: u32) -> Option<usize>
     ensures { Begins rows.entry.width rows.entry.bytes.now rows.entry.count result (seek (is_parent element) (rows_from rows.entry.width rows.entry.bytes.now rows.entry.count 0)) }
 {
     for i in 0..rows.count {
-        if has_child(rows.below(i, ELEMENT), element) {
+        if has_child(Children::below(rows, i, ELEMENT), element) {
             return Some(i);
         }
     }
@@ -84,24 +85,12 @@ fn children_fit(part: &[u8], children: Children, place: usize, new: usize, skip:
 }
 
 // ---- in a store
-// The rows of a store.
-fn rows_in(store: &[u8]) -> Rows<'_>
-    requires { row_count store.now ≤ 4096 }
-    ensures { RowsIn store.now result }
-{
-    Rows {
-        width: layout::width_in(store),
-        bytes: layout::rows_of(store),
-        count: layout::row_count(store),
-    }
-}
-
 /// The number of an element row in a store.
 pub fn find_element(store: &[u8], element: u32) -> Option<usize>
     requires { passes store.now ≡ true }
     ensures { ElementRowAt store.now element result }
 {
-    element_at(rows_in(store), element)
+    element_at(layout::rows_in(store), element)
 }
 
 /// The definition index of row i.
@@ -109,9 +98,7 @@ pub fn row_definition(store: &[u8], i: usize) -> usize
     requires { i ≤ 4096 }
     ensures { result ≡ (read_row (record_at (row_size (width_of store.now)) i (tree_rows_in store.now))).row.index }
 {
-    let w = layout::width_in(store);
-    let rows = layout::rows_of(store);
-    layout::row_index(layout::row_at(w, rows, i)) as usize
+    layout::row_index(layout::rows_in(store).row(i)) as usize
 }
 
 // The rows of a sort right below row i.
@@ -119,7 +106,7 @@ fn children(store: &[u8], i: usize, sort: u8) -> Children<'_>
     requires { RowOf store.now i }
     ensures { coming result ≡ children_at store.now sort i }
 {
-    rows_in(store).below(i, sort)
+    Children::below(layout::rows_in(store), i, sort)
 }
 
 // The serial of child number n of a sort, right below row i.
@@ -165,7 +152,7 @@ pub fn find_parent(store: &[u8], element: u32) -> Option<usize>
     requires { passes store.now ≡ true }
     ensures { ParentAt store.now element result }
 {
-    parent_at(rows_in(store), element)
+    parent_at(layout::rows_in(store), element)
 }
 
 /// Whether row i has at least `child` element children.

@@ -1,45 +1,8 @@
-//! The rows of a tree body, and those right below one of them.
-ghost use Rattle.std.specs.Prelude.{◌≡◌, ◌≤◌};
-ghost use Rattle.rules.specs.Layout.{row_size};
+//! The rows right below a row.
+ghost use Rattle.std.specs.Prelude.{◌≡◌, ◌<◌};
 ghost use Rattle.rules.specs.Decode.{read_row};
-ghost use Rattle.layout.specs.Bodies.{Width, record_at};
 
-/// The rows of a tree body: the width of a value, the bytes, and how many rows they are.
-#[derive(Clone, Copy)]
-pub struct Rows<'a> {
-    pub width: usize,
-    pub bytes: &'a [u8],
-    pub count: usize,
-    pub ghost narrow: { Width width },
-    pub ghost few: { count ≤ 4096 },
-}
-
-impl<'a> Rows<'a> {
-    ghost use Rattle.document_rows.specs.Finding.{children_below};
-    ghost use Rattle.document_rows.specs.Coming.{coming};
-
-    /// Row i.
-    pub(crate) fn row(self, i: usize) -> &'a [u8]
-        requires { i ≤ 4096 }
-        ensures { result.now ≡ record_at (row_size self.entry.width) i self.entry.bytes.now }
-    {
-        layout::row_at(self.width, self.bytes, i)
-    }
-
-    /// The rows of a sort right below row i.
-    pub(crate) fn below(self, i: usize, sort: u8) -> Children<'a>
-        requires { i ≤ 4096 }
-        ensures { coming result ≡ children_below self.entry.width self.entry.bytes.now self.entry.count sort i }
-    {
-        let depth = layout::row_depth(self.row(i)) as usize;
-        Children {
-            rows: self,
-            at: i + 1,
-            depth: depth + 1,
-            sort,
-        }
-    }
-}
+use layout::rows::Rows;
 
 /// The rows of a depth and a sort from number `at` on, before any that is less deep.
 #[derive(Drop)]
@@ -48,6 +11,25 @@ pub struct Children<'a> {
     pub at: usize,
     pub depth: usize,
     pub sort: u8,
+}
+
+impl<'a> Children<'a> {
+    ghost use Rattle.document_rows.specs.Finding.{children_below};
+    ghost use Rattle.document_rows.specs.Coming.{coming};
+
+    /// The rows of a sort right below row i.
+    pub(crate) fn below(rows: Rows<'a>, i: usize, sort: u8) -> Children<'a>
+        requires { i < 4294967296 }
+        ensures { coming result ≡ children_below rows.entry.width rows.entry.bytes.now rows.entry.count sort i }
+    {
+        let depth = layout::row_depth(rows.row(i)) as usize;
+        Children {
+            rows,
+            at: i + 1,
+            depth: depth + 1,
+            sort,
+        }
+    }
 }
 
 impl<'a> Iterator for Children<'a> {

@@ -4,8 +4,55 @@
 ghost use Rattle.std.specs.Prelude.{◌≡◌};
 ghost use Rattle.rules.specs.Layout.{quantifier_code, group_code, sort_code};
 ghost use Rattle.rules.specs.Decode.{quantifier_of, group_of, sort_of};
+ghost use Rattle.rules.specs.Kinds.{kind_by, kind_number};
 ghost use Rattle.rules.specs.RowSorts.{row_number};
+ghost use Rattle.rules.specs.Codes.{IsCodeUpTo, IsGroupCode};
 ghost use Rattle.rules.specs.Given.{refusal_number};
+
+/// What an element of a definition has below it, besides its attributes' rows: nothing, one text, or elements by the
+/// definition's model.
+#[derive(Clone, Copy, Debug, PartialEq, Eq)]
+pub enum Kind {
+    Empty,
+    Pcdata,
+    Complex,
+}
+
+impl From<u8> for Kind {
+    ghost from_gives = { λ code kind. kind ≡ kind_by code };
+
+    /// The kind whose code this is in the store; every code above 1 is read as that of COMPLEX.
+    fn from(code: u8) -> Kind {
+        match code {
+            0 => Kind::Empty,
+            1 => Kind::Pcdata,
+            _ => Kind::Complex,
+        }
+    }
+}
+
+impl From<Kind> for u8 {
+    ghost from_gives = { λ kind code. code ≡ kind_number kind };
+
+    /// The code in the store.
+    fn from(content: Kind) -> u8 {
+        content as u8
+    }
+}
+
+impl TryFrom<u32> for Kind {
+    type Error = Refusal;
+
+    ghost try_from_gives = { IsCodeUpTo 2 kind_by };
+
+    /// The kind whose code a call gives.
+    fn try_from(code: u32) -> Result<Kind, Refusal> {
+        if code > 2 {
+            return Err(Refusal::BadCode);
+        }
+        Ok(Kind::from(code as u8))
+    }
+}
 
 /// How often a particle may stand.
 #[derive(Clone, Copy, Debug, PartialEq, Eq)]
@@ -39,6 +86,20 @@ impl From<Quantifier> for u8 {
     }
 }
 
+impl TryFrom<u32> for Quantifier {
+    type Error = Refusal;
+
+    ghost try_from_gives = { IsCodeUpTo 3 quantifier_of };
+
+    /// The quantifier whose code a call gives.
+    fn try_from(code: u32) -> Result<Quantifier, Refusal> {
+        if code > 3 {
+            return Err(Refusal::BadCode);
+        }
+        Ok(Quantifier::from(code as u8))
+    }
+}
+
 /// The kind of a group: LIST is Sequence.
 #[derive(Clone, Copy, Debug, PartialEq, Eq)]
 pub enum GroupKind {
@@ -65,6 +126,21 @@ impl From<GroupKind> for u8 {
     /// The code in the store.
     fn from(kind: GroupKind) -> u8 {
         kind as u8
+    }
+}
+
+impl TryFrom<u32> for GroupKind {
+    type Error = Refusal;
+
+    ghost try_from_gives = { IsGroupCode };
+
+    /// The kind whose code a call gives.
+    fn try_from(code: u32) -> Result<GroupKind, Refusal> {
+        match code {
+            1 => Ok(GroupKind::Sequence),
+            2 => Ok(GroupKind::Choice),
+            _ => Err(Refusal::BadCode),
+        }
     }
 }
 
@@ -96,6 +172,20 @@ impl From<AttributeSort> for u8 {
     /// The code in the store.
     fn from(sort: AttributeSort) -> u8 {
         sort as u8
+    }
+}
+
+impl TryFrom<u32> for AttributeSort {
+    type Error = Refusal;
+
+    ghost try_from_gives = { IsCodeUpTo 2 sort_of };
+
+    /// The sort whose code a call gives.
+    fn try_from(code: u32) -> Result<AttributeSort, Refusal> {
+        if code > 2 {
+            return Err(Refusal::BadCode);
+        }
+        Ok(AttributeSort::from(code as u8))
     }
 }
 

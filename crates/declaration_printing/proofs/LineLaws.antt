@@ -16,7 +16,7 @@ use Rattle.rules.specs.Model.{Members}
 use Rattle.rules.specs.Store.{Attribute, Forest, bare, tree}
 use Rattle.rules.specs.Preorder.{build}
 use Rattle.rules.specs.Layout.{attribute_size, FlatParticle, FlatAttribute}
-use Rattle.rules.specs.Decode.{name_at, group_of, sort_of, content_of, member_of, read_members, of_owner, read_attribute, read_definition, attribute_count, definition_count}
+use Rattle.rules.specs.Decode.{name_at, sort_of, content_of, member_of, read_members, of_owner, read_attribute, read_definition, attribute_count, definition_count}
 use Rattle.rules.specs.Kinds.{kind_by, kind_number}
 use Rattle.rules.specs.Print.{escape, default_tokens, member_tokens, model_tokens, content_tokens}
 use Rattle.rules.proofs.BooleanLaws.{concat_append}

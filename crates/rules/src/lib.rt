@@ -1,13 +1,24 @@
 //! The types that the definitions of specs/ and the code of the crates above share.
 #![tactic(auto)]
 
-ghost use Rattle.std.specs.Prelude.{◌≡◌};
+ghost use Rattle.std.specs.Prelude.{◌≡◌, ◌<◌, ◌≤◌, MatchResult};
+ghost use Rattle.rules.specs.declared.Refusal.TheVariants.{BadCode};
 ghost use Rattle.rules.specs.Layout.{quantifier_code, group_code, sort_code};
 ghost use Rattle.rules.specs.Decode.{quantifier_of, group_of, sort_of};
 ghost use Rattle.rules.specs.Kinds.{kind_by, kind_number};
 ghost use Rattle.rules.specs.RowSorts.{row_number};
 ghost use Rattle.rules.specs.Codes.{IsCodeUpTo, IsGroupCode};
 ghost use Rattle.rules.specs.Given.{refusal_number};
+
+// What has the code that a call gives, of things with the codes from 0 to the last.
+fn read_code<T: From<u8>>(last: u8, code: u32) -> Result<T, Refusal>
+    ensures { MatchResult result (λ x. T.from_gives code x × (code ≤ last)) (λ e. (e ≡ BadCode) × (last < code)) }
+{
+    if code > u32::from(last) {
+        return Err(Refusal::BadCode);
+    }
+    Ok(T::from(code as u8))
+}
 
 /// What an element of a definition has below it, besides its attributes' rows: nothing, one text, or elements by the
 /// definition's model.
@@ -21,7 +32,8 @@ pub enum Kind {
 impl From<u8> for Kind {
     ghost from_gives = { λ code kind. kind ≡ kind_by code };
 
-    /// The kind whose code this is in the store; every code above 1 is read as that of COMPLEX.
+    /// The kind whose code this is in the store; every code above 1 is read as that of COMPLEX. Each of these enums has
+    /// its own table: one reader of them all would be given the table as pairs, and is no plainer.
     fn from(code: u8) -> Kind {
         match code {
             0 => Kind::Empty,
@@ -47,10 +59,7 @@ impl TryFrom<u32> for Kind {
 
     /// The kind whose code a call gives.
     fn try_from(code: u32) -> Result<Kind, Refusal> {
-        if code > 2 {
-            return Err(Refusal::BadCode);
-        }
-        Ok(Kind::from(code as u8))
+        read_code(Kind::Complex as u8, code)
     }
 }
 
@@ -93,10 +102,7 @@ impl TryFrom<u32> for Quantifier {
 
     /// The quantifier whose code a call gives.
     fn try_from(code: u32) -> Result<Quantifier, Refusal> {
-        if code > 3 {
-            return Err(Refusal::BadCode);
-        }
-        Ok(Quantifier::from(code as u8))
+        read_code(Quantifier::Plus as u8, code)
     }
 }
 
@@ -144,8 +150,8 @@ impl TryFrom<u32> for GroupKind {
     }
 }
 
-/// The sort of an attribute: IMPLIED, its rows may be left out; REQUIRED, each element has one; FIXED, its rows have the
-/// attribute's own value.
+/// The sort of an attribute: IMPLIED, its rows may be left out; REQUIRED, each element has one; FIXED, its rows have
+/// the attribute's own value.
 #[derive(Clone, Copy, Debug, PartialEq, Eq)]
 pub enum AttributeSort {
     Implied,
@@ -182,10 +188,7 @@ impl TryFrom<u32> for AttributeSort {
 
     /// The sort whose code a call gives.
     fn try_from(code: u32) -> Result<AttributeSort, Refusal> {
-        if code > 2 {
-            return Err(Refusal::BadCode);
-        }
-        Ok(AttributeSort::from(code as u8))
+        read_code(AttributeSort::Fixed as u8, code)
     }
 }
 

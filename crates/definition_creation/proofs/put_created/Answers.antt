@@ -12,7 +12,6 @@ use Rattle.definition_writer.specs.Bodies.{new_definition}
 use Rattle.definition_creation.proofs.CreatedBytes.{created_laid, after_header, front_short, back_short}
 use Rattle.rules.proofs.LayoutLaws.{length_definition}
 use native.Mathlib.Omega.{arith}
-use borrow.Author.Rules.{rules}
 use Rattle.definition_creation.proofs.put_created.Goals as goal
 
 pub put_header-first-requires : goal.put_header-first-requires

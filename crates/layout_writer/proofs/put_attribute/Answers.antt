@@ -9,7 +9,6 @@ use Rattle.rules.specs.Layout.{sort_code}
 use Rattle.codec.proofs.Writers.{laid_as}
 use Rattle.rules.proofs.LayoutLaws.{length_field}
 use Rattle.layout.proofs.RecordLaws.{attribute_laid}
-use borrow.Author.Rules.{rules}
 use Rattle.layout_writer.proofs.put_attribute.Goals as goal
 
 pub put_u8-c-requires : goal.put_u8-c-requires

@@ -9,7 +9,6 @@ use Rattle.rules.specs.Kinds.{kind_number}
 use Rattle.codec.proofs.Writers.{laid_as}
 use Rattle.rules.proofs.LayoutLaws.{length_field}
 use Rattle.layout.proofs.RecordLaws.{definition_laid}
-use borrow.Author.Rules.{rules}
 use Rattle.layout_writer.proofs.put_definition.Goals as goal
 
 pub put_u8-b-requires : goal.put_u8-b-requires

@@ -10,12 +10,13 @@ use mathlib.Core.List.{List, [], ◌∷◌, map}
 use lib.Dec.{eqb, ltb}
 use lib.ListN.{length, length-append}
 use Rattle.rules.specs.declared.AttributeSort.{AttributeSort}
-use Rattle.rules.specs.Bytes.{Bytes, same, bytes, any}
+use Rattle.rules.specs.declared.AttributeSort.TheVariants.{Implied, Required, Fixed}
+use Rattle.rules.specs.Bytes.{Bytes, same, bytes, any, is_none}
 use Rattle.rules.specs.Model.{member}
 use Rattle.rules.specs.Store.{Attribute, Form}
 use Rattle.rules.specs.Layout.{attribute_size, FlatStore, own_attributes, all_attributes, sort_code}
 use Rattle.rules.specs.Decode.{read_attribute, read_many, attribute_count, sort_of}
-use Rattle.rules.specs.WellFormed.{attribute_name, is_there, given_name}
+use Rattle.rules.specs.WellFormed.{attribute_name, is_there, given_name, is_fill}
 use Rattle.rules.specs.Change.{add_attribute, destroy_attribute, Owned, entry_at, attribute_at, definition_at}
 use Rattle.rules.specs.Refusal.{conditions, bad_text, is_other, wrong_default}
 use Rattle.lookup.specs.Bodies.{bodies_of}
@@ -167,9 +168,19 @@ module _ (bs : Bytes) (w : Whole bs) where
               add_0 h = gives_next h₂ (gives_next h₃ (gives_next (le-ltb 2 k h₄) (gives_next (sym (own_named_lem o n) ∙ h₅) (gives_next h₆ (gives_next h gives_none)))))
 
 -- ---- a default
+-- a value goes with a sort, or is the wrong default for it
+fill_right : (s : AttributeSort) (v : Bytes) → not (is_fill s v) ≡ wrong_default (sort_code s) v
+fill_right Implied v = refl
+fill_right Required v = by (is_none v)
+  where
+    by : (b : Bool) → not (not b) ≡ b
+    by true = refl
+    by false = refl
+fill_right Fixed v = refl
+
 -- of the sort that a code no greater than 2 is read as
-pub default_as : (k : ℕ) (v : Bytes) {s : AttributeSort} {r : Bool} → s ≡ sort_of k → k ≤ 2 → r ≡ wrong_default (sort_code s) v → r ≡ wrong_default k v
-default_as k v e l q = q ∙ ap (λ (z : ℕ). wrong_default z v) (ap sort_code e ∙ sort_back k l)
+pub default_as : (k : ℕ) (v : Bytes) {s : AttributeSort} {r : Bool} → s ≡ sort_of k → k ≤ 2 → r ≡ is_fill s v → not r ≡ wrong_default k v
+default_as k v {s} e l q = ap not q ∙ fill_right s v ∙ ap (λ (z : ℕ). wrong_default z v) (ap sort_code e ∙ sort_back k l)
 
 -- ---- a record
 pub own_at : (o : ℕ) (n : Bytes) {rec at : Bytes} {r : Bool} → r ≡ own_named o n (read_attribute rec) → rec ≡ at → r ≡ own_named o n (read_attribute at)

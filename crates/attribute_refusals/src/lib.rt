@@ -1,14 +1,14 @@
-//! Which refusal of the changes 9 and 10 applies to a store that passes.
+//! Which refusal of the changes 9 and 10 applies to a store that passes. A sort comes as the `u32` that a caller in C
+//! gives, as one that is no code is refused here.
 #![tactic(auto)]
 
 ghost use Rattle.std.specs.Prelude.{◌≡◌, true};
 ghost use Rattle.rules.specs.Given.{number_given};
 ghost use Rattle.rules.specs.Bytes.{any};
-ghost use Rattle.rules.specs.Layout.{sort_code};
 ghost use Rattle.rules.specs.Decode.{read_attribute};
 ghost use Rattle.rules.specs.Passing.{passes};
 ghost use Rattle.rules.specs.Change.{add_attribute, destroy_attribute};
-ghost use Rattle.rules.specs.Refusal.{first, conditions, wrong_default};
+ghost use Rattle.rules.specs.Refusal.{first, conditions};
 ghost use Rattle.lookup.specs.Bodies.{bodies_of};
 ghost use Rattle.store_laws.specs.Stores.{store_in};
 ghost use Rattle.attribute_refusals.specs.OwnAttributes.{own_named};
@@ -38,17 +38,6 @@ fn has_attribute(store: &[u8], owner: u32, name: &[u8]) -> bool
     false
 }
 
-// Whether a value does not go with the sort of a new attribute.
-fn is_wrong_default(sort: AttributeSort, value: &[u8]) -> bool
-    ensures { result ≡ wrong_default (sort_code sort) value.now }
-{
-    match sort {
-        AttributeSort::Implied => value.len() != 0,
-        AttributeSort::Required => value.len() == 0,
-        AttributeSort::Fixed => false,
-    }
-}
-
 /// Refusals 2, 3, 4, 5, 6 and 12 of the change that adds an attribute.
 pub fn add_attribute_refusal(
     store: &[u8],
@@ -67,16 +56,14 @@ pub fn add_attribute_refusal(
     if !records::is_value(w, value) {
         return Err(Refusal::BadValue);
     }
-    if sort > 2 {
-        return Err(Refusal::BadCode);
-    }
+    let sort = AttributeSort::try_from(sort)?;
     if has_attribute(store, owner, name) {
         return Err(Refusal::Taken);
     }
     if owner as usize >= layout::definition_count(store) {
         return Err(Refusal::Unknown);
     }
-    if is_wrong_default(AttributeSort::from(sort as u8), value) {
+    if !records::is_fill(sort, value) {
         return Err(Refusal::Default);
     }
     Ok(())

@@ -1,4 +1,5 @@
-//! What changes 6 and 7 ask of a model: the kind of the group by its code, and the edits.
+//! What changes 6 and 7 ask of a model: the kind of the group by its code, and the edits. The code is a `u32`, as the
+//! call takes it from C: every number is read, and docs/notes/13-house.md names the two functions that take it.
 #![tactic(auto)]
 
 ghost use Rattle.std.specs.Prelude.{◌≡◌};

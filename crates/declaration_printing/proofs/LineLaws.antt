@@ -7,6 +7,8 @@ use native.Mathlib.Omega.{arith}
 use borrow.Author.Tests.{eq-eqb, ne_eqb}
 use lib.ListN.{length}
 use Rattle.rules.specs.declared.GroupKind.TheVariants.{Sequence}
+use Rattle.rules.specs.declared.Kind.{Kind}
+use Rattle.rules.specs.declared.Kind.TheVariants.{Empty, Pcdata, Complex}
 use Rattle.rules.specs.declared.AttributeSort.{AttributeSort}
 use Rattle.rules.specs.declared.AttributeSort.TheVariants.{Implied, Required, Fixed}
 use Rattle.rules.specs.Bytes.{Bytes, ascii, concat}
@@ -14,7 +16,8 @@ use Rattle.rules.specs.Model.{Members}
 use Rattle.rules.specs.Store.{Attribute, Forest, bare, tree}
 use Rattle.rules.specs.Preorder.{build}
 use Rattle.rules.specs.Layout.{attribute_size, FlatParticle, FlatAttribute}
-use Rattle.rules.specs.Decode.{name_at, group_of, sort_of, content_of, member_of, read_members, of_owner, read_attribute, read_definition, attribute_count, definition_count}
+use Rattle.rules.specs.Decode.{name_at, sort_of, content_of, member_of, read_members, of_owner, read_attribute, read_definition, attribute_count, definition_count}
+use Rattle.rules.specs.Kinds.{kind_by, kind_number}
 use Rattle.rules.specs.Print.{escape, default_tokens, member_tokens, model_tokens, content_tokens}
 use Rattle.rules.proofs.BooleanLaws.{concat_append}
 use Rattle.layout.specs.Bodies.{width_of}
@@ -161,71 +164,82 @@ listing_done bs owner o count {at = at} {i = i} w h k =
     }
 
 -- ---- content
-content_none : (ns : List Bytes) (kind : ℕ) (f : Forest FlatParticle) → (kind ≡ 0 → ⊥) → (kind ≡ 1 → ⊥) → false ≡ is_tree f → content_text ns kind f ≡ ascii "EMPTY" ++ []
+content_none : (ns : List Bytes) (f : Forest FlatParticle) → false ≡ is_tree f → content_text ns 2 f ≡ ascii "EMPTY" ++ []
 unfolding content_text
-content_none ns zero f a b e = absurd (a refl)
-content_none ns (suc zero) f a b e = absurd (b refl)
-content_none ns (suc (suc k)) bare a b e = refl
-content_none ns (suc (suc k)) (tree p q t) a b e = absurd (false≢true e)
+content_none ns bare e = refl
+content_none ns (tree p q t) e = absurd (false≢true e)
 
 model_some : (ns : List Bytes) (p : FlatParticle) (s : ℕ) (b t : Members Bytes)
     → concat (model_tokens (member_of ns p s b t)) ≡ ascii "(" ++ (concat (member_tokens Sequence [] (member_of ns p s b t)) ++ (ascii ")" ++ []))
 model_some ns p zero b t = ap (λ (l : Bytes). ascii "(" ++ l) (concat_append (member_tokens Sequence [] (member_of ns p zero b t)) (ascii ")" ∷ []))
 model_some ns p (suc s) b t = ap (λ (l : Bytes). ascii "(" ++ l) (concat_append (member_tokens Sequence [] (member_of ns p (suc s) b t)) (ascii ")" ∷ []))
 
-content_some : (ns : List Bytes) (kind : ℕ) (f : Forest FlatParticle) → (kind ≡ 0 → ⊥) → (kind ≡ 1 → ⊥) → true ≡ is_tree f
-    → content_text ns kind f ≡ ascii "(" ++ (members_text ns Sequence true f ++ (ascii ")" ++ []))
+content_some : (ns : List Bytes) (f : Forest FlatParticle) → true ≡ is_tree f → content_text ns 2 f ≡ ascii "(" ++ (members_text ns Sequence true f ++ (ascii ")" ++ []))
 unfolding content_text members_text
-content_some ns zero f a b e = absurd (a refl)
-content_some ns (suc zero) f a b e = absurd (b refl)
-content_some ns (suc (suc k)) bare a b e = absurd (false≢true (sym e))
-content_some ns (suc (suc k)) (tree p q t) a b e = model_some ns p p.sort (read_members ns q) (read_members ns t)
+content_some ns bare e = absurd (false≢true (sym e))
+content_some ns (tree p q t) e = model_some ns p p.sort (read_members ns q) (read_members ns t)
 
-module _ (ns : List Bytes) (kind : ℕ) (f : Forest FlatParticle) {out : Bytes} {at : ℕ} where
-  content_laid : {w o : Bytes} {r : ℕ} → content_text ns kind f ≡ w ++ [] → length w ≤ 9 → Laid w out at r o → LaidWithin 640100 (content_text ns kind f) out at r o
-  content_laid e h l = record { laid = laid_as e (laid_then l laid_none); small = omega (arith, l.next) }
+module _ (ns : List Bytes) (f : Forest FlatParticle) {out : Bytes} {at : ℕ} where
+  content_laid : (kind : ℕ) {w o : Bytes} {r : ℕ} → content_text ns kind f ≡ w ++ [] → length w ≤ 9 → Laid w out at r o → LaidWithin 640100 (content_text ns kind f) out at r o
+  content_laid kind e h l = record { laid = laid_as e (laid_then l laid_none); small = omega (arith, l.next) }
 
-  pub content_empty_laid : {o : Bytes} {r : ℕ} → kind ≡ 0 → Laid (ascii "EMPTY") out at r o → LaidWithin 640100 (content_text ns kind f) out at r o
-  unfolding content_text
-  content_empty_laid e l = content_laid (ap (λ (k : ℕ). concat (content_tokens (content_of k (read_members ns f)))) e) (omega arith) l
+  module _ {kind : Kind} where
+    pub content_empty_laid : {o : Bytes} {r : ℕ} → kind ≡ Empty → Laid (ascii "EMPTY") out at r o → LaidWithin 640100 (content_text ns (kind_number kind) f) out at r o
+    unfolding content_text
+    content_empty_laid e l = content_laid (kind_number kind) (ap (λ (k : Kind). concat (content_tokens (content_of (kind_number k) (read_members ns f)))) e) (omega arith) l
 
-  pub content_pcdata_laid : {o : Bytes} {r : ℕ} → kind ≡ 1 → Laid (ascii "(#PCDATA)") out at r o → LaidWithin 640100 (content_text ns kind f) out at r o
-  unfolding content_text
-  content_pcdata_laid e l = content_laid (ap (λ (k : ℕ). concat (content_tokens (content_of k (read_members ns f)))) e) (omega arith) l
+    pub content_pcdata_laid : {o : Bytes} {r : ℕ} → kind ≡ Pcdata → Laid (ascii "(#PCDATA)") out at r o → LaidWithin 640100 (content_text ns (kind_number kind) f) out at r o
+    unfolding content_text
+    content_pcdata_laid e l = content_laid (kind_number kind) (ap (λ (k : Kind). concat (content_tokens (content_of (kind_number k) (read_members ns f)))) e) (omega arith) l
 
-  pub content_none_laid : {o : Bytes} {r : ℕ} (b : Bool) → (kind ≡ 0 → ⊥) → (kind ≡ 1 → ⊥) → b ≡ is_tree f → b ≡ false → Laid (ascii "EMPTY") out at r o
-      → LaidWithin 640100 (content_text ns kind f) out at r o
-  content_none_laid b x y e g l = content_laid (content_none ns kind f x y (sym g ∙ e)) (omega arith) l
+    pub content_model_laid : {o : Bytes} {r : ℕ} → kind ≡ Complex → LaidWithin 640100 (content_text ns (kind_number Complex) f) out at r o
+        → LaidWithin 640100 (content_text ns (kind_number kind) f) out at r o
+    content_model_laid {o} {r} e l = subst (λ (k : Kind). LaidWithin 640100 (content_text ns (kind_number k) f) out at r o) (sym e) l
 
-pub content_some_laid : (bs : Bytes) (kind end from : ℕ) {out o₁ o₂ o : Bytes} {at a₁ a₂ next r : ℕ} (b : Bool) → end ≤ 256 → (kind ≡ 0 → ⊥) → (kind ≡ 1 → ⊥)
-    → b ≡ is_tree (build (particles_from bs end from) 0) → b ≡ true
-    → Laid (ascii "(") out at a₁ o₁ → Passed (particles_from bs end) (members_text (names_of bs) (group_of 1) true) end from 0 a₁ o₁ next a₂ o₂ → Laid (ascii ")") o₂ a₂ r o
-    → LaidWithin 640100 (content_text (names_of bs) kind (build (particles_from bs end from) 0)) out at r o
-content_some_laid bs kind end from b h x y e g l m n =
+  pub content_none_laid : {o : Bytes} {r : ℕ} (b : Bool) → b ≡ is_tree f → b ≡ false → Laid (ascii "EMPTY") out at r o → LaidWithin 640100 (content_text ns (kind_number Complex) f) out at r o
+  content_none_laid b e g l = content_laid 2 (content_none ns f (sym g ∙ e)) (omega arith) l
+
+pub content_some_laid : (bs : Bytes) (end from : ℕ) {out o₁ o₂ o : Bytes} {at a₁ a₂ next r : ℕ} (b : Bool) → end ≤ 256 → b ≡ is_tree (build (particles_from bs end from) 0) → b ≡ true
+    → Laid (ascii "(") out at a₁ o₁ → Passed (particles_from bs end) (members_text (names_of bs) Sequence true) end from 0 a₁ o₁ next a₂ o₂ → Laid (ascii ")") o₂ a₂ r o
+    → LaidWithin 640100 (content_text (names_of bs) (kind_number Complex) (build (particles_from bs end from) 0)) out at r o
+content_some_laid bs end from b h e g l m n =
     record {
-      laid = laid_as (content_some (names_of bs) kind (build (particles_from bs end from) 0) x y (sym g ∙ e)) (laid_then l (laid_then m.laid (laid_then n laid_none)));
+      laid = laid_as (content_some (names_of bs) (build (particles_from bs end from) 0) (sym g ∙ e)) (laid_then l (laid_then m.laid (laid_then n laid_none)));
       small = omega (arith, l.next, m.small, n.next);
     }
 
+-- what stands below a definition, by the kind that its code is read as
+content_read : (ns : List Bytes) (n : ℕ) (f : Forest FlatParticle) → content_text ns n f ≡ content_text ns (kind_number (kind_by n)) f
+unfolding content_text
+content_read ns zero f = refl
+content_read ns (suc zero) f = refl
+content_read ns (suc (suc n)) f = refl
+
 -- ---- the line of a definition
-pub definition_laid : (bs : Bytes) (o end from : ℕ) (d : Bytes) → d ≡ definition_part bs o → o < definition_count bs → (kind : ℕ) → kind ≡ (read_definition d).kind
+pub definition_laid : (bs : Bytes) (o end from : ℕ) (d : Bytes) → d ≡ definition_part bs o → o < definition_count bs → (code : ℕ) (kind : Kind) → code ≡ (read_definition d).kind → kind ≡ kind_by code
     → {w out o₁ o₂ o₃ o₄ o₅ : Bytes} {at a₁ a₂ a₃ a₄ r : ℕ} → Laid (ascii "<!ELEMENT ") out at a₁ o₁ → Named (name_at o (names_of bs)) w → Laid w o₁ a₁ a₂ o₂ → Laid (ascii " ") o₂ a₂ a₃ o₃
-    → LaidWithin 640100 (content_text (names_of bs) kind (build (particles_from bs end from) 0)) o₃ a₃ a₄ o₄ → Laid (ascii ">\n") o₄ a₄ r o₅
+    → LaidWithin 640100 (content_text (names_of bs) (kind_number kind) (build (particles_from bs end from) 0)) o₃ a₃ a₄ o₄ → Laid (ascii ">\n") o₄ a₄ r o₅
     → LaidWithin 641000 (definition_text (names_of bs) (read_definition (definition_part bs o)) (particles_from bs end from)) out at r o₅
 unfolding definition_text
-definition_laid bs o end from d at-o h kind kind_is {w} a n b c e g =
+definition_laid bs o end from d at-o h code kind code_is kind_is {w} a n b c e g =
     record {
       laid = laid_as same (laid_then a (laid_then b (laid_then c (laid_then e.laid (laid_then g laid_none)))));
       small = omega (arith, a.next, b.next, c.next, e.small, g.next, n.short);
     }
   where
-    kind_here : (read_definition (definition_part bs o)).kind ≡ kind
-    kind_here = sym (kind_is ∙ ap (λ (l : Bytes). (read_definition l).kind) at-o)
+    below : Forest FlatParticle
+    below = build (particles_from bs end from) 0
+
+    content_here : content_text (names_of bs) (read_definition (definition_part bs o)).kind below ≡ content_text (names_of bs) (kind_number kind) below
+    content_here =
+        ap (λ (k : ℕ). content_text (names_of bs) k below) (sym (code_is ∙ ap (λ (l : Bytes). (read_definition l).kind) at-o))
+        ∙ content_read (names_of bs) code below
+        ∙ ap (λ (k : Kind). content_text (names_of bs) (kind_number k) below) (sym kind_is)
 
     same : ascii "<!ELEMENT "
         ++ ((read_definition (definition_part bs o)).name
-        ++ (ascii " " ++ (content_text (names_of bs) (read_definition (definition_part bs o)).kind (build (particles_from bs end from) 0) ++ (ascii ">\n" ++ []))))
-        ≡ ascii "<!ELEMENT " ++ (w ++ (ascii " " ++ (content_text (names_of bs) kind (build (particles_from bs end from) 0) ++ (ascii ">\n" ++ []))))
+        ++ (ascii " " ++ (content_text (names_of bs) (read_definition (definition_part bs o)).kind below ++ (ascii ">\n" ++ []))))
+        ≡ ascii "<!ELEMENT " ++ (w ++ (ascii " " ++ (content_text (names_of bs) (kind_number kind) below ++ (ascii ">\n" ++ []))))
     same =
-        ap₂ (λ (z : Bytes) (k : ℕ). ascii "<!ELEMENT " ++ (z ++ (ascii " " ++ (content_text (names_of bs) k (build (particles_from bs end from) 0) ++ (ascii ">\n" ++ [])))))
-        (sym (n.name_is ∙ definition_name_lem bs o h)) kind_here
+        ap₂ (λ (z c : Bytes). ascii "<!ELEMENT " ++ (z ++ (ascii " " ++ (c ++ (ascii ">\n" ++ [])))))
+        (sym (n.name_is ∙ definition_name_lem bs o h)) content_here

@@ -3,24 +3,26 @@
 
 ghost use Rattle.std.specs.Prelude.{◌≡◌, true, suc, ◌+◌, ◌<◌, ◌≤◌, length};
 ghost use Rattle.codec.specs.Laid.{Laid};
+ghost use Rattle.rules.specs.declared.Kind.TheVariants.{Complex};
 ghost use Rattle.rules.specs.Preorder.{build};
-ghost use Rattle.rules.specs.Decode.{quantifier_of, group_of, read_definition, read_particle, read_attribute, definition_count, attribute_count, of_owner};
+ghost use Rattle.rules.specs.Decode.{read_definition, read_particle, read_attribute, definition_count, attribute_count, of_owner};
+ghost use Rattle.rules.specs.Kinds.{kind_number};
 ghost use Rattle.rules.specs.Print.{mark_of};
 ghost use Rattle.printing_parts.specs.Parts.{definition_part, particle_part, attribute_part, names_of, particles_from, attributes_from};
 ghost use Rattle.printing_parts.specs.Walking.{TextRoom, Passed, Stepped};
 ghost use Rattle.declaration_printing.specs.Declarations.{sign_text, member_text, members_text, LaidWithin, default_text, attribute_line_text, attributes_text, is_tree, content_text, definition_text};
 
 use printing_parts::Walked;
-use rules::{AttributeSort, GroupKind, Quantifier};
+use rules::{AttributeSort, GroupKind, Kind, Quantifier};
 
 // ---- marks, separators
 
 // Writes the mark of a quantifier.
-fn put_mark(quantifier: u8, out: &mut [u8], at: usize) -> usize
+fn put_mark(quantifier: Quantifier, out: &mut [u8], at: usize) -> usize
     requires { at < 9223372036854775808 }
-    ensures { Laid (mark_of (quantifier_of quantifier)) out.old at result out.new }
+    ensures { Laid (mark_of quantifier) out.old at result out.new }
 {
-    match Quantifier::from(quantifier) {
+    match quantifier {
         Quantifier::None => at,
         Quantifier::Qmark => codec::put_u8(out, at, b'?'),
         Quantifier::Star => codec::put_u8(out, at, b'*'),
@@ -29,14 +31,14 @@ fn put_mark(quantifier: u8, out: &mut [u8], at: usize) -> usize
 }
 
 // Writes what stands before a member of a group of this kind.
-fn put_separator(kind: u8, first: bool, out: &mut [u8], at: usize) -> usize
+fn put_separator(kind: GroupKind, first: bool, out: &mut [u8], at: usize) -> usize
     requires { at < 9223372036854775808 }
-    ensures { Laid (sign_text (group_of kind) first) out.old at result out.new }
+    ensures { Laid (sign_text kind first) out.old at result out.new }
 {
     if first {
         return at;
     }
-    match GroupKind::from(kind) {
+    match kind {
         GroupKind::Sequence => codec::put_u8(out, at, b','),
         GroupKind::Choice => codec::put_u8(out, at, b'|'),
     }
@@ -51,31 +53,30 @@ fn put_member(
     end: usize,
     i: usize,
     depth: usize,
-    kind: u8,
+    kind: GroupKind,
     first: bool,
     out: &mut [u8],
     at: usize,
 ) -> Walked
     requires { TextRoom end i depth at × (i < end) × (depth < 256) }
     ensures { Stepped (particles_from store.now end)
-        (member_text (names_of store.now) (group_of kind) first (read_particle (particle_part store.now i)).row
+        (member_text (names_of store.now) kind first (read_particle (particle_part store.now i)).row
         (build (particles_from store.now end (i + 1)) (suc depth)))
         end i depth at out.old result.next result.at out.new }
 {
     let bytes = printing_parts::particle(store, i);
-    let sort = layout::particle_sort(bytes);
-    let quantifier = layout::particle_quantifier(bytes);
+    let quantifier = Quantifier::from(layout::particle_quantifier(bytes));
     let signed = put_separator(kind, first, out, at);
-    if sort == 0 {
+    let Some(inner) = layout::group_kind_of(bytes) else {
         let index = layout::particle_index(bytes) as usize;
         let named = codec::put(printing_parts::name_of(store, index), out, signed);
         return Walked {
             at: put_mark(quantifier, out, named),
             next: i + 1,
         };
-    }
+    };
     let opened = codec::put_u8(out, signed, b'(');
-    let below = put_members(store, end, i + 1, depth + 1, sort, out, opened);
+    let below = put_members(store, end, i + 1, depth + 1, inner, out, opened);
     let closed = codec::put_u8(out, below.at, b')');
     Walked {
         at: put_mark(quantifier, out, closed),
@@ -90,12 +91,12 @@ fn put_members(
     end: usize,
     from: usize,
     depth: usize,
-    kind: u8,
+    kind: GroupKind,
     out: &mut [u8],
     start: usize,
 ) -> Walked
     requires { TextRoom end from depth start }
-    ensures { Passed (particles_from store.now end) (members_text (names_of store.now) (group_of kind) true) end from depth start
+    ensures { Passed (particles_from store.now end) (members_text (names_of store.now) kind true) end from depth start
         out.old result.next result.at out.new }
 {
     let mut at = start;
@@ -187,22 +188,37 @@ fn has_members(store: &[u8], from: usize, end: usize) -> bool
 }
 
 // Writes a content model of the particles from number `from` to `end`.
-fn put_content(store: &[u8], kind: u8, from: usize, end: usize, out: &mut [u8], at: usize) -> usize
+fn put_model(store: &[u8], from: usize, end: usize, out: &mut [u8], at: usize) -> usize
     requires { (end ≤ 256) × (at < 2305843009213693952) }
-    ensures { LaidWithin 640100 (content_text (names_of store.now) kind (build (particles_from store.now end from) 0)) out.old at result out.new }
+    ensures { LaidWithin 640100 (content_text (names_of store.now) (kind_number Complex) (build (particles_from store.now end from) 0))
+        out.old at result out.new }
 {
-    if kind == 0 {
-        return codec::put(b"EMPTY", out, at);
-    }
-    if kind == 1 {
-        return codec::put(b"(#PCDATA)", out, at);
-    }
     if !has_members(store, from, end) {
         return codec::put(b"EMPTY", out, at);
     }
     let opened = codec::put_u8(out, at, b'(');
-    let members = put_members(store, end, from, 0, 1, out, opened);
+    let members = put_members(store, end, from, 0, GroupKind::Sequence, out, opened);
     codec::put_u8(out, members.at, b')')
+}
+
+// Writes what a definition of a kind has below it, a content model of the particles from number `from` to `end`.
+fn put_content(
+    store: &[u8],
+    kind: Kind,
+    from: usize,
+    end: usize,
+    out: &mut [u8],
+    at: usize,
+) -> usize
+    requires { (end ≤ 256) × (at < 2305843009213693952) }
+    ensures { LaidWithin 640100 (content_text (names_of store.now) (kind_number kind) (build (particles_from store.now end from) 0))
+        out.old at result out.new }
+{
+    match kind {
+        Kind::Empty => codec::put(b"EMPTY", out, at),
+        Kind::Pcdata => codec::put(b"(#PCDATA)", out, at),
+        Kind::Complex => put_model(store, from, end, out, at),
+    }
 }
 
 /// Writes the line of definition o, whose particles are those from number `from` to `end`.
@@ -219,7 +235,7 @@ pub fn put_definition(
         (definition_text (names_of store.now) (read_definition (definition_part store.now o)) (particles_from store.now end from))
         out.old at result out.new }
 {
-    let kind = layout::definition_kind(printing_parts::definition(store, o));
+    let kind = Kind::from(layout::definition_kind(printing_parts::definition(store, o)));
     let signed = codec::put(b"<!ELEMENT ", out, at);
     let named = codec::put(printing_parts::name_of(store, o), out, signed);
     let spaced = codec::put_u8(out, named, b' ');

@@ -5,12 +5,13 @@ ghost use Rattle.std.specs.Prelude.{◌≡◌, ◌*◌, ◌≤◌, length};
 ghost use Rattle.rules.specs.Bytes.{same};
 ghost use Rattle.rules.specs.Layout.{quantifier_code};
 ghost use Rattle.rules.specs.Decode.{read_definition};
+ghost use Rattle.rules.specs.Kinds.{kind_number};
 ghost use Rattle.rules.specs.WellFormed.{in_name};
 ghost use Rattle.text_scan.specs.Scan.{after_while};
 ghost use Rattle.declaration_scan.specs.Declared.{mark_code, name_here, place_among, declared_name, after_declared, declared_kind};
 ghost use Rattle.declaration_scan.specs.Names.{NameOf, written_names, PlaceIn};
 
-use rules::Quantifier;
+use rules::{Kind, Quantifier};
 
 /// The quantifier whose mark stands here.
 pub fn mark_code(text: &[u8]) -> Quantifier
@@ -71,15 +72,15 @@ pub fn after_declared(line: &[u8]) -> &[u8]
     codec::after(after_name(codec::after(line, 10)), 1)
 }
 
-/// The code of the kind of content that a definition says.
-pub fn declared_kind(content: &[u8]) -> u8
-    ensures { result ≡ declared_kind content.now }
+/// The kind of content that a definition says.
+pub fn declared_kind(content: &[u8]) -> Kind
+    ensures { kind_number result ≡ declared_kind content.now }
 {
     if codec::byte(content, 0) == b'E' {
-        return 0;
+        return Kind::Empty;
     }
     if text_scan::starts_with(content, b"(#") {
-        return 1;
+        return Kind::Pcdata;
     }
-    2
+    Kind::Complex
 }

@@ -1,4 +1,5 @@
-//! Which refusal of changes 1 and 2 applies to a store that passes.
+//! Which refusal of changes 1 and 2 applies to a store that passes. A kind comes as the `u32` that a caller in C
+//! gives, as one that is no code is refused here.
 #![tactic(auto)]
 
 ghost use Rattle.std.specs.Prelude.{◌≡◌, true};
@@ -13,7 +14,7 @@ ghost use Rattle.definition_creation.specs.Bodies.{created};
 ghost use Rattle.definition_removal.specs.Bodies.{Defined, destroyed};
 ghost use Rattle.call_laws.specs.Limits.{Limit};
 
-use rules::Refusal;
+use rules::{Kind, Refusal};
 
 /// Refused by the first condition of change 1 that holds.
 pub fn create_condition(store: &[u8], name: &[u8], kind: u32) -> Result<(), Refusal>
@@ -23,9 +24,7 @@ pub fn create_condition(store: &[u8], name: &[u8], kind: u32) -> Result<(), Refu
     if !records::given_name(name) {
         return Err(Refusal::BadName);
     }
-    if kind > 2 {
-        return Err(Refusal::BadCode);
-    }
+    Kind::try_from(kind)?;
     if definition_writer::name_exists(store, name) {
         return Err(Refusal::Taken);
     }

@@ -2,10 +2,16 @@
 use Prim.Native.Nat.{ℕ, ◌<◌, ◌≤◌}
 use native.Mathlib.Omega.{arith}
 use mathlib.Core.Path.{◌≡◌, refl, sym, ap, ◌∙◌}
-use mathlib.Core.Bool.{Bool, true, false, not}
+use mathlib.Core.Bool.{Bool, true, false, not, false≢true}
+use borrow.Author.Tests.{eq-eqb, eqb-true, not-false}
+use denote.Enum.Bare.{sameb}
 use mathlib.Core.Option as maybe
 use mathlib.Core.Option.{none, some}
 use Rattle.std.specs.Prelude.{Option, None, Result, Err, ok_or}
+use Rattle.rules.specs.declared.Kind.{Kind}
+use Rattle.rules.specs.contracts.Kind.{the_type}
+use Rattle.rules.specs.Kinds.{kind_by, kind_number}
+use Rattle.rules.proofs.KindLaws.{kind_test}
 use Rattle.rules.specs.declared.Refusal.{Refusal}
 use Rattle.rules.specs.declared.Refusal.TheVariants.{BadStore, BadName, BadValue, BadCode, Taken, Unknown, NoRow, NoPlace, WrongKind, InUse, Round}
 use Rattle.rules.specs.declared.Refusal.TheVariants.{Default, OffSpine, Grouping, NoMatch, Ceiling, Serials, Buffer, BadText}
@@ -25,6 +31,13 @@ use Rattle.store_check.proofs.StoreFacts.{form_in, Whole, bad_text_lem, fine_tex
 use Rattle.document_rows.proofs.ElementFacts.{Element, NoElement, defined}
 use Rattle.document_rows.proofs.RowFacts.{kind_is}
 use Rattle.change_laws.proofs.FirstCondition.{gives_hit, gives_next, gives_none}
+
+-- a kind compared with another
+pub other_kind_is : (k j : Kind) {b : Bool} → b ≡ not (sameb the_type k j) → b ≡ true → kind_number k ≡ kind_number j → ⊥
+other_kind_is k j e h z = false≢true (sym (ap not (kind_test k j ∙ eq-eqb _ _ z)) ∙ sym e ∙ h)
+
+pub same_kind_is : (k j : Kind) {b : Bool} → b ≡ not (sameb the_type k j) → b ≡ false → kind_number k ≡ kind_number j
+same_kind_is k j e h = eqb-true _ _ (sym (kind_test k j) ∙ not-false _ (sym e ∙ h))
 
 -- a refusal has a number
 pub some_number : (r : Refusal) → refusal_number r ≡ 0 → ⊥
@@ -66,6 +79,19 @@ module _ (bs : Bytes) (w : Whole bs) where
     pub document_0 : not a ≡ false → {m : ℕ} → Number (definition_count bs) m → i < m → Gives 0 (conditions (add_document i t) (store_in bs))
     unfolding conditions
     document_0 h u l = gives_next (fine_text bs t v e h) (gives_next (within_definitions bs w u i l) gives_none)
+
+  -- the kind that is read has the code that the form has
+  pub kind_read : {k i : ℕ} (e : Element bs k i) {j : Kind} → j ≡ kind_by (row_definition_kind bs i) → kind_number j ≡ row_definition_kind bs i
+  kind_read {k} {i} e q =
+      ap kind_number q
+      ∙ ap (λ (n : ℕ). kind_number (kind_by n)) (kind_is bs w e)
+      ∙ by (defined bs w k i e).definition.content
+      ∙ sym (kind_is bs w e)
+    where
+      by : (x : Content) → kind_number (kind_by (kind_code x)) ≡ kind_code x
+      by empty = refl
+      by pcdata = refl
+      by (complex ms) = refl
 
   pcdata_is : {k i : ℕ} (e : Element bs k i) → pcdata_element k (store_in bs) ≡ is_pcdata (some (defined bs w k i e).definition)
   pcdata_is {k} {i} e =

@@ -8,12 +8,7 @@ ghost use Rattle.rules.specs.Given.{number_given};
 ghost use Rattle.rules.specs.Refusal.{first, conditions};
 ghost use Rattle.store_laws.specs.Stores.{store_in};
 
-use rules::Refusal;
-
-// The codes of the kinds of definitions.
-const PCDATA: u8 = 1;
-
-const COMPLEX: u8 = 2;
+use rules::{Kind, Refusal};
 
 /// Refusals 3 and 6 of the change that adds a document.
 pub fn add_document_refusal(store: &[u8], definition: u32, text: &[u8]) -> Result<(), Refusal>
@@ -40,7 +35,7 @@ pub fn set_text_refusal(store: &[u8], element: u32, text: &[u8]) -> Result<(), R
         return Err(Refusal::BadValue);
     }
     let i = document_rows::find_element(store, element).ok_or(Refusal::NoRow)?;
-    if document_rows::kind_at(store, i) != PCDATA {
+    if document_rows::kind_at(store, i) != Kind::Pcdata {
         return Err(Refusal::WrongKind);
     }
     Ok(())
@@ -77,7 +72,7 @@ pub fn add_element_refusal(
     if !document_rows::has_place(store, i, child as usize) {
         return Err(Refusal::NoPlace);
     }
-    if document_rows::kind_at(store, i) != COMPLEX {
+    if document_rows::kind_at(store, i) != Kind::Complex {
         return Err(Refusal::NoMatch);
     }
     if !document_rows::fits_at(store, i, child as usize + 1, definition as usize, 0) {

@@ -6,6 +6,7 @@ ghost use Rattle.rules.specs.Bytes.{any};
 ghost use Rattle.rules.specs.Lines.{serial_at, children_of, is_element_row, is_text_row};
 ghost use Rattle.rules.specs.Passing.{passes};
 ghost use Rattle.rules.specs.Refusal.{no_element, rows_of};
+ghost use Rattle.rules.specs.Kinds.{kind_by};
 ghost use Rattle.rules.specs.Layout.{row_size};
 ghost use Rattle.rules.specs.Decode.{read_row};
 ghost use Rattle.layout.specs.Bodies.{width_of, record_at, attributes_in, tree_rows_in};
@@ -23,6 +24,7 @@ mod tree;
 
 use layout::rows::Rows;
 use nexts::Nexts;
+use rules::Kind;
 use tree::Children;
 
 // The codes of the sorts of rows.
@@ -139,12 +141,12 @@ pub fn fits_at(store: &[u8], i: usize, place: usize, new: usize, skip: u32) -> b
     children_fit(model_at(store, i), elements, place, new, skip)
 }
 
-/// The code of the kind of row i's definition.
-pub fn kind_at(store: &[u8], i: usize) -> u8
+/// The kind of row i's definition.
+pub fn kind_at(store: &[u8], i: usize) -> Kind
     requires { RowOf store.now i }
-    ensures { result ≡ row_definition_kind store.now i }
+    ensures { result ≡ kind_by (row_definition_kind store.now i) }
 {
-    form_index::kind_of(layout::definitions_of(store), row_definition(store, i))
+    form_index::content_kind(layout::definitions_of(store), row_definition(store, i))
 }
 
 /// The number of the row right above an element row in a store.

@@ -6,7 +6,7 @@ use Prim.Native.Nat.{ℕ, zero, suc, ◌-◌, ◌<◌, ◌≤◌}
 use native.Mathlib.Omega.{arith}
 use native.Mathlib.Numerals.{sub-one}
 use borrow.Author.Tests.{eq-eqb, ne_eqb, lt-ltb, le-ltb}
-use lib.Dec.{ltb}
+use lib.Dec.{eqb, ltb}
 use lib.ListN.{length, get_or}
 use Rattle.rules.specs.Bytes.{Bytes, ascii}
 use Rattle.text_scan.specs.Scan.{starts_with}
@@ -19,12 +19,12 @@ module _ (f : Declared) (w o : ℕ) (txt : Bytes) {x : ℕ} (e : x ≡ get_or tx
   pub tag_attribute : x ≡ 32 → tag_token f w o txt ≡ attribute_token f w o txt
   tag_attribute h = rw (eq-eqb (get_or txt 0 0) 32 (sym e ∙ h), tag_token)
 
-  module _ (h : x ≡ 32 → ⊥) {k : ℕ} (g : k ≡ kind_of_definition o f.definitions) where
-    pub tag_text : k ≡ 1 → tag_token f w o txt ≡ text_token w txt
-    tag_text q = rw (ne_eqb (get_or txt 0 0) 32 (λ z. h (e ∙ z)), eq-eqb (kind_of_definition o f.definitions) 1 (sym g ∙ q), tag_token)
+  module _ (h : x ≡ 32 → ⊥) {b : Bool} (g : b ≡ eqb (kind_of_definition o f.definitions) 1) where
+    pub tag_text : b ≡ true → tag_token f w o txt ≡ text_token w txt
+    tag_text q = rw (ne_eqb (get_or txt 0 0) 32 (λ z. h (e ∙ z)), sym g ∙ q, tag_token)
 
-    pub tag_ends : (k ≡ 1 → ⊥) → tag_token f w o txt ≡ start_end_token txt
-    tag_ends q = rw (ne_eqb (get_or txt 0 0) 32 (λ z. h (e ∙ z)), ne_eqb (kind_of_definition o f.definitions) 1 (λ z. q (g ∙ z)), tag_token)
+    pub tag_ends : b ≡ false → tag_token f w o txt ≡ start_end_token txt
+    tag_ends q = rw (ne_eqb (get_or txt 0 0) 32 (λ z. h (e ∙ z)), sym g ∙ q, tag_token)
 
 -- ---- the definitions that are opened
 pub stack_size : (d : ℕ) (a : Bytes) → length (stack_of d a) ≡ d

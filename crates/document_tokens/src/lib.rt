@@ -9,7 +9,7 @@ ghost use Rattle.declaration_scan.specs.Names.{PlaceIn};
 ghost use Rattle.document_tokens.specs.Tokens.{declared_in, kind_of_definition, attribute_among, element_token, attribute_token, text_token, tag_token, start_end_token, end_token, token_at};
 ghost use Rattle.document_tokens.specs.Telling.{sort_code, FormRoom, stack_of, Tells, ValueRead, Quotes};
 
-use rules::RowSort;
+use rules::{Kind, RowSort};
 
 /// What stands at a place of a text as it is printed. `sort`: of the row that it makes, if it makes one; `length`: of
 /// its value, which is in a buffer.
@@ -38,14 +38,14 @@ fn attribute_place(form: &[u8], o: usize, name: &[u8]) -> Option<usize>
     (0..count).find(|&i| is_attribute(printing_parts::attribute(form, i), o, name))
 }
 
-// The code of the kind of definition o; 0 where there is none.
-fn kind_of(form: &[u8], o: usize) -> u8
-    ensures { result ≡ kind_of_definition o (bodies_of form.now).definitions }
+// Whether definition o is there and has a text below it.
+fn has_text(form: &[u8], o: usize) -> bool
+    ensures { result ≡ eqb (kind_of_definition o (bodies_of form.now).definitions) 1 }
 {
     if layout::definition_count(form) <= o {
-        return 0;
+        return false;
     }
-    layout::definition_kind(printing_parts::definition(form, o))
+    Kind::from(layout::definition_kind(printing_parts::definition(form, o))) == Kind::Pcdata
 }
 
 // ---- the tokens
@@ -191,7 +191,7 @@ fn tag_token(w: usize, form: &[u8], o: usize, text: &[u8], value: &mut [u8]) -> 
     if codec::byte(text, 0) == b' ' {
         return attribute_token(w, form, o, text, value);
     }
-    if kind_of(form, o) == 1 {
+    if has_text(form, o) {
         return text_token(w, text, value);
     }
     start_end_token(text)

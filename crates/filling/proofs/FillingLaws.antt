@@ -8,6 +8,8 @@ use mathlib.Core.Bool.{Bool, true, false, ◌&&◌, ◌||◌, false≢true}
 use mathlib.Core.List.{List, [], ◌∷◌, ◌++◌, append_assoc, append-nil}
 use lib.Dec.{eqb, ltb}
 use lib.ListN.{length, take, drop, get_or, length-take, length-drop}
+use Rattle.std.specs.Prelude.{Option, None, Some, is_some, unwrap_or}
+use Rattle.rules.specs.Codes.{read_group}
 use Rattle.rules.specs.declared.GroupKind.{GroupKind}
 use Rattle.rules.specs.contracts.GroupKind.{the_type}
 use denote.Enum.Bare.{sameb}
@@ -28,9 +30,6 @@ use Rattle.model.specs.declared.Particle.{Particle}
 use Rattle.model.specs.Particle.{what_of, particle_of}
 use Rattle.model.specs.Members.{index_member, members_from, all_members}
 use Rattle.model.proofs.MembersLaws.{members_few, members_deeper, members_stop, members_here}
-use Rattle.form_index.specs.declared.Kind.{Kind}
-use Rattle.form_index.specs.declared.Kind.TheVariants.{Empty, Pcdata, Complex}
-use Rattle.form_index.specs.Kinds.{kind_by}
 use Rattle.form_index.specs.Indices.{IndexForm}
 use Rattle.layout.specs.Bodies.{record_at}
 use Rattle.layout.proofs.LayoutLaws.{attribute_value_short}
@@ -48,6 +47,15 @@ use Rattle.layout.specs.declared.Form.{Form}
 use Rattle.layout.specs.Fields.{particle_depth_at, particle_index_at, particle_quantifier_at, particle_sort_at}
 use Rattle.rules.specs.Layout.{particle_size}
 
+-- ---- the kind of a particle that is a group, by the code of its sort
+pub no_kind : (sort : ℕ) → None ≡ read_group sort → sort ≡ 0
+no_kind zero e = refl
+no_kind (suc k) e = absurd (false≢true (ap is_some e))
+
+pub kind_there : (sort : ℕ) (k : GroupKind) → Some k ≡ read_group sort → (sort ≡ 0 → ⊥) × (k ≡ group_of sort)
+kind_there zero k e = absurd (false≢true (sym (ap is_some e)))
+kind_there (suc n) k e = (λ z. omega arith, ap (λ (o : Option GroupKind). unwrap_or o k) e)
+
 -- ---- readers
 -- a created value is no longer than the fill
 created_short : (sort : AttributeSort) (fill : Bytes) → length (created_value sort fill) ≤ length fill
@@ -62,27 +70,6 @@ created_told w attrs j b k q u v e s r t x =
           ∙ ap₂ (λ (y : ℕ) (z : Bytes). created_value (sort_of y) z) (s ∙ ap (λ (z : Bytes). (read_attribute z).sort) e) (t ∙ ap (λ (z : Bytes). (read_attribute z).value) e),
       omega (arith, ap length x, created_short q u, ap length t, attribute_value_short b w long),
     )
-
--- ---- the kind of a definition by its code
-abbrev kind_number : Kind → ℕ
-kind_number Empty = 0
-kind_number Pcdata = 1
-kind_number Complex = 2
-
-pub kind_none : (k : ℕ) → kind_by k ≡ Empty → k ≡ 0
-kind_none zero h = refl
-kind_none (suc zero) h = let z : ◌≡◌ {A = ℕ} 1 0 = ap kind_number h in absurd (omega arith)
-kind_none (suc (suc k)) h = let z : ◌≡◌ {A = ℕ} 2 0 = ap kind_number h in absurd (omega arith)
-
-pub kind_text : (k : ℕ) → kind_by k ≡ Pcdata → k ≡ 1
-kind_text zero h = let z : ◌≡◌ {A = ℕ} 0 1 = ap kind_number h in absurd (omega arith)
-kind_text (suc zero) h = refl
-kind_text (suc (suc k)) h = let z : ◌≡◌ {A = ℕ} 2 1 = ap kind_number h in absurd (omega arith)
-
-pub kind_model : (k : ℕ) → kind_by k ≡ Complex → 2 ≤ k
-kind_model zero h = let z : ◌≡◌ {A = ℕ} 0 2 = ap kind_number h in absurd (omega arith)
-kind_model (suc zero) h = let z : ◌≡◌ {A = ℕ} 1 2 = ap kind_number h in absurd (omega arith)
-kind_model (suc (suc k)) h = omega arith
 
 -- ---- a new row of sort m, written with the code k that the sort is converted to
 pub sort_written : {w k m d j : ℕ} {v : Bytes} {c r : Cursor} {out out' : Bytes} → k ≡ m → Written w (new_row k d j v ∷ []) c out r out' → Written w (new_row m d j v ∷ []) c out r out'

@@ -14,11 +14,10 @@ ghost use Rattle.filling.specs.Parts.{definition_rows, member_rows, below_rows, 
 ghost use Rattle.layout.specs.Fields.{particle_quantifier_at, particle_sort_at};
 ghost use Rattle.rules.specs.Layout.{particle_size};
 
-use form_index::Kind;
 use layout::{Form, PARTICLE_SIZE};
 use model::What;
 use row_writer::Cursor;
-use rules::{AttributeSort, GroupKind, Quantifier, RowSort};
+use rules::{AttributeSort, GroupKind, Kind, Quantifier, RowSort};
 
 /// What a change fills with: nothing, a definition by its index, one row of an attribute by its index, or a group of a
 /// kind by the number of its first member in the particle body and the depth of its members.
@@ -79,12 +78,10 @@ fn member_accepts_nothing(t: &[u8], d: usize) -> bool
     if is_optional(t) {
         return true;
     }
-    // The code is that of an element, else that of the group's kind, which its conversion reads.
-    let sort = layout::particle_sort(t);
-    if sort == 0 {
+    let Some(kind) = layout::group_kind_of(t) else {
         return false;
-    }
-    accepts_nothing(&t[PARTICLE_SIZE..], d + 1, GroupKind::from(sort))
+    };
+    accepts_nothing(&t[PARTICLE_SIZE..], d + 1, kind)
 }
 
 // Whether a group of the members of depth d that s begins with accepts

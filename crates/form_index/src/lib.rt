@@ -4,51 +4,21 @@
 
 ghost use Rattle.std.specs.Prelude.{◌≡◌, ◌&&◌, ◌*◌, ◌<◌, ◌≤◌, eqb};
 ghost use Rattle.rules.specs.Decode.{sort_of};
+ghost use Rattle.rules.specs.Kinds.{kind_by};
 ghost use Rattle.rules.specs.Conforming.{must_be_present, allows};
 ghost use Rattle.layout.specs.Bodies.{Width};
-ghost use Rattle.form_index.specs.Kinds.{kind_by};
 ghost use Rattle.form_index.specs.Reading.{definition_in, attribute_in, particles_before, model_part};
 
 use layout::PARTICLE_SIZE;
-use rules::AttributeSort;
+use rules::{AttributeSort, Kind};
 
 // ---- definitions
-/// What an element of a definition has below it, besides its attributes' rows: nothing, one text, or elements by the
-/// definition's model.
-#[derive(Clone, Copy, Debug, PartialEq, Eq)]
-pub enum Kind {
-    Empty,
-    Pcdata,
-    Complex,
-}
-
-impl From<u8> for Kind {
-    ghost from_gives = { λ code kind. kind ≡ kind_by code };
-
-    /// The kind whose code this is in the store; every code above 1 is read as that of COMPLEX.
-    fn from(code: u8) -> Kind {
-        match code {
-            0 => Kind::Empty,
-            1 => Kind::Pcdata,
-            _ => Kind::Complex,
-        }
-    }
-}
-
-/// The code of definition i's kind.
-pub fn kind_of(defs: &[u8], i: usize) -> u8
-    requires { i ≤ 256 }
-    ensures { result ≡ (definition_in defs.now i).kind }
-{
-    layout::definition_kind(layout::definition_at(defs, i))
-}
-
 /// Definition i's kind.
 pub fn content_kind(defs: &[u8], i: usize) -> Kind
     requires { i ≤ 256 }
     ensures { result ≡ kind_by (definition_in defs.now i).kind }
 {
-    Kind::from(kind_of(defs, i))
+    Kind::from(layout::definition_kind(layout::definition_at(defs, i)))
 }
 
 /// How many particles definition i has.

@@ -4,6 +4,7 @@ use native.Mathlib.Omega.{arith}
 use borrow.Author.Tests.{ne_eqb, eqb-true, eqb-false, ltb-true, ltb-false}
 use mathlib.Core.Path.{◌≡◌, refl, sym, ap, ap₂, ◌∙◌}
 use mathlib.Core.Bool.{Bool, true, false, ◌||◌, not, false≢true}
+use mathlib.Core.Logic.{◌⊎◌, inl, inr}
 use mathlib.Core.Option.{Option, none, some}
 use mathlib.Core.List.{List, [], ◌∷◌}
 use lib.Dec.{eqb, ltb}
@@ -120,6 +121,14 @@ module _ (list k : GroupKind) (n depth : ℕ) (at : Bytes) {r : Bytes} {m : ℕ}
 
     pub convert_fine : {b : Bool} → b ≡ unlike_kind list k n → b ≡ false → Gives 0 (convert_tests list k n (members_from depth at))
     convert_fine q w = gives_next (ap not (has_many n t low high)) (gives_next (unlike_first q w) gives_none)
+
+-- ---- the code of the kind
+pub no_group : (k : ℕ) → (k ≡ 1 → ⊥) → (k ≡ 2 → ⊥) → not (eqb k 1 || eqb k 2) ≡ true
+no_group k a b = ap₂ (λ (x y : Bool). not (x || y)) (ne_eqb k 1 a) (ne_eqb k 2 b)
+
+pub some_group : (k : ℕ) → (k ≡ 1) ⊎ (k ≡ 2) → not (eqb k 1 || eqb k 2) ≡ false
+some_group k (inl e) = ap (λ (z : ℕ). not (eqb z 1 || eqb z 2)) e
+some_group k (inr e) = ap (λ (z : ℕ). not (eqb z 1 || eqb z 2)) e
 
 -- ---- the conditions
 module _ (bs : Bytes) (pass : passes bs ≡ true) (o : ℕ) (p : List ℕ) (n k : ℕ) where

@@ -1,4 +1,5 @@
-//! Which refusal of the changes 6 and 7 applies to a store that passes, or the place.
+//! Which refusal of the changes 6 and 7 applies to a store that passes, or the place. A kind comes as the `u32` that a
+//! caller in C gives, as one that is no code is refused here.
 #![tactic(auto)]
 
 ghost use Rattle.std.specs.Prelude.{◌≡◌, true, false, ◌||◌, not, [], ◌∷◌, ◌*◌, ◌≤◌, drop};
@@ -62,20 +63,18 @@ pub fn convert_to_group_refusal(
     ensures { (number_given result ≡ first (conditions (convert_to_group owner place.now count sort) (store_in store.now)))
         × Finds store.now owner false place.now result }
 {
-    if !((sort == 1) | (sort == 2)) {
-        return Err(Refusal::BadCode);
-    }
+    let kind = GroupKind::try_from(sort)?;
     if owner as usize >= layout::definition_count(store) {
         return Err(Refusal::Unknown);
     }
     let part = model_places::own_part(store, owner as usize);
     let found = place_lookup::find(part, place, false).ok_or(Refusal::NoPlace)?;
-    let kind = conversion::group_kind(sort);
     convert_at(part, found.holder, found.particle, count, kind)?;
     Ok(found)
 }
 
-/// Refusals 6, 8 and 14 of the change that flattens a group, or the place.
+/// Refusals 6, 8 and 14 of the change that flattens a group, or the place. It begins as the refusal of the change that
+/// removes an element does: one function for both would have to say both changes' conditions, and is no plainer.
 pub fn flatten_group_refusal(store: &[u8], owner: u32, place: &[u32]) -> Result<Found, Refusal>
     requires { passes store.now ≡ true }
     ensures { (number_given result ≡ first (conditions (flatten_group owner place.now) (store_in store.now)))

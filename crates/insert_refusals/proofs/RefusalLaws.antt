@@ -1,13 +1,14 @@
 -- The first condition that holds, of the change that inserts an element: what the code finds, put together.
-use Prim.Native.Nat.{ℕ, zero, suc, ◌<◌, ◌≤◌}
+use Prim.Native.Nat.{ℕ, ◌<◌, ◌≤◌}
 use native.Mathlib.Omega.{arith}
 use mathlib.Core.Path.{◌≡◌, refl, sym, ap, ap₂, ◌∙◌, subst}
-use mathlib.Core.Bool.{Bool, true, false, not, ◌&&◌, ◌||◌, and-false, and-true}
+use mathlib.Core.Bool.{Bool, true, false, not, ◌&&◌, ◌||◌, and-false, and-true, false≢true}
 use mathlib.Core.Option.{Option, none, some}
 use mathlib.Core.List.{List, [], ◌∷◌}
 use lib.Dec.{eqb}
 use lib.ListN.{length}
-use borrow.Author.Tests.{not-true, not-false, lt-ltb, le-ltb}
+use borrow.Author.Tests.{not-true, not-false, lt-ltb, le-ltb, eq-eqb, eqb-true}
+use denote.Enum.Bare.{sameb}
 use Rattle.rules.specs.declared.GroupKind.{GroupKind}
 use Rattle.rules.specs.declared.GroupKind.TheVariants.{Sequence}
 use Rattle.rules.specs.Bytes.{Bytes, is_none}
@@ -17,6 +18,10 @@ use Rattle.rules.specs.Edit.{insert, same_kind, insert_off}
 use Rattle.rules.specs.Store.{Content, empty, pcdata, complex, Store}
 use Rattle.rules.specs.Layout.{kind_code}
 use Rattle.rules.specs.Decode.{quantifier_of, definition_count}
+use Rattle.rules.specs.declared.Kind.{Kind}
+use Rattle.rules.specs.contracts.Kind.{the_type}
+use Rattle.rules.specs.Kinds.{kind_by, kind_number}
+use Rattle.rules.proofs.KindLaws.{kind_test}
 use Rattle.rules.specs.WellFormed.{is_value}
 use Rattle.rules.specs.Passing.{passes}
 use Rattle.rules.specs.Change.{insert_element, definition_at, name_at_index}
@@ -41,10 +46,22 @@ use Rattle.insert_refusals.specs.Inserting.{model_conditions, off_spine, place_c
 use Rattle.model_reach.proofs.FormFacts.{Reads}
 use Rattle.model_reach.proofs.ModelLaws.{size}
 
+-- a kind compared with another
+pub other_kind_is : (k j : Kind) {b : Bool} → b ≡ not (sameb the_type k j) → b ≡ true → kind_number k ≡ kind_number j → ⊥
+other_kind_is k j e h z = false≢true (sym (ap not (kind_test k j ∙ eq-eqb _ _ z)) ∙ sym e ∙ h)
+
+pub same_kind_is : (k j : Kind) {b : Bool} → b ≡ not (sameb the_type k j) → b ≡ false → kind_number k ≡ kind_number j
+same_kind_is k j e h = eqb-true _ _ (sym (kind_test k j) ∙ not-false _ (sym e ∙ h))
+
 complex_code : (c : Content) → kind_code c ≡ 2 → not (is_complex c) ≡ false
 complex_code empty e = absurd (omega arith)
 complex_code pcdata e = absurd (omega arith)
 complex_code (complex ms) e = refl
+
+code_read : (c : Content) → kind_number (kind_by (kind_code c)) ≡ kind_code c
+code_read empty = refl
+code_read pcdata = refl
+code_read (complex ms) = refl
 
 other_code : (c : Content) → (kind_code c ≡ 2 → ⊥) → not (is_complex c) ≡ true
 other_code empty e = refl
@@ -52,18 +69,20 @@ other_code pcdata e = refl
 other_code (complex ms) e = absurd (e refl)
 
 -- ---- from row 9 on
-module _ (bs : Bytes) (w : Reads bs) (o i : ℕ) (lo : o < definition_count bs) (needed unfilled off : Bool) {k : ℕ} {defs : Bytes} (kind : k ≡ (definition_in defs o).kind)
+module _ (bs : Bytes) (w : Reads bs) (o i : ℕ) (lo : o < definition_count bs) (needed unfilled off : Bool) {k : Kind} {defs : Bytes} (kind : k ≡ kind_by (definition_in defs o).kind)
     (body : defs ≡ definitions_in bs) where
   abbrev Result : ℕ → Type 0
   Result n = Gives n (model_conditions o i needed unfilled off (store_in bs))
 
-  kind_is : k ≡ kind_code (definition_at o (form_in bs)).content
-  kind_is = kind ∙ ap (λ (d : Bytes). (definition_in d o).kind) body ∙ w.whole.agrees.kind o (omega (arith, size bs w))
+  kind_is : kind_number k ≡ kind_code (definition_at o (form_in bs)).content
+  kind_is =
+      ap kind_number (kind ∙ ap (λ (d : Bytes). kind_by (definition_in d o).kind) body ∙ ap kind_by (w.whole.agrees.kind o (omega (arith, size bs w))))
+      ∙ code_read (definition_at o (form_in bs)).content
 
-  pub model_9 : (k ≡ 2 → ⊥) → Result 9
+  pub model_9 : (kind_number k ≡ 2 → ⊥) → Result 9
   model_9 f = gives_hit (other_code (definition_at o (form_in bs)).content (λ z. f (kind_is ∙ z)))
 
-  module _ (is : k ≡ 2) {b : Bool} (e10 : b ≡ stands_in_model (form_in bs) o i) where
+  module _ (is : kind_number k ≡ 2) {b : Bool} (e10 : b ≡ stands_in_model (form_in bs) o i) where
     past_9 : not (is_complex (definition_at o (form_in bs)).content) ≡ false
     past_9 = complex_code (definition_at o (form_in bs)).content (sym kind_is ∙ is)
 
@@ -119,13 +138,6 @@ module _ (bs : Bytes) (o i : ℕ) (needed unfilled : Bool) (place : List ℕ) wh
         gives_next (ap no_place x.there) (record { is = g ∙ ap (λ (b : Bool). first (model_conditions o i needed unfilled b (store_in bs))) d })
 
 -- ---- all
-pub needed_is : (q : ℕ) → q ≤ 3 → (eqb q 0 || eqb q 3) ≡ not (skips (quantifier_of q))
-needed_is zero l = refl
-needed_is (suc zero) l = refl
-needed_is (suc (suc zero)) l = refl
-needed_is (suc (suc (suc zero))) l = refl
-needed_is (suc (suc (suc (suc k)))) l = absurd (omega arith)
-
 needed_off : (b : Bool) (found : Option (Spot Bytes)) → (b && off_spine found) ≡ at_place (λ c x. b && (same_kind (kind_at Sequence c) Sequence && not (spine c))) found
 needed_off b none = and-false b
 needed_off b (some x) = refl

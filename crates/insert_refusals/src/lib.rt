@@ -1,10 +1,10 @@
-//! Which refusal of change 3, which inserts an element into a model, applies to a store that passes, or the place.
+//! Which refusal of change 3, which inserts an element into a model, applies to a store that passes, or the place. The
+//! quantifier comes as the `u32` that a caller in C gives, as one that is no code is refused here.
 #![tactic(auto)]
 
 ghost use Rattle.std.specs.Prelude.{◌≡◌, true, not, ◌&&◌, ◌<◌, ◌≤◌};
 ghost use Rattle.rules.specs.declared.GroupKind.TheVariants.{Sequence};
-ghost use Rattle.rules.specs.Model.{skips};
-ghost use Rattle.rules.specs.Decode.{definition_count, quantifier_of};
+ghost use Rattle.rules.specs.Decode.{definition_count};
 ghost use Rattle.rules.specs.Given.{number_given};
 ghost use Rattle.rules.specs.Passing.{passes};
 ghost use Rattle.rules.specs.Edit.{same_kind};
@@ -15,7 +15,7 @@ ghost use Rattle.model_places.specs.Placing.{model_in, found_by, Finds};
 ghost use Rattle.insert_refusals.specs.Inserting.{model_conditions, place_conditions};
 
 use model::place::{Found, Holder};
-use rules::{GroupKind, Refusal};
+use rules::{GroupKind, Kind, Quantifier, Refusal};
 
 // From row 9 on. `needed`: NONE or PLUS; `unfilled`: the default is empty; `off`: the place is in a LIST off the spine.
 fn model_refusal(
@@ -29,7 +29,7 @@ fn model_refusal(
     requires { (passes store.now ≡ true) × (o < definition_count store.now) × (i < definition_count store.now) }
     ensures { number_given result ≡ first (model_conditions o i needed unfilled off (store_in store.now)) }
 {
-    if form_index::kind_of(layout::definitions_of(store), o) != 2 {
+    if form_index::content_kind(layout::definitions_of(store), o) != Kind::Complex {
         return Err(Refusal::WrongKind);
     }
     if model_reach::in_model(store, o, i) {
@@ -74,14 +74,6 @@ fn place_refusal(
     Ok(gap)
 }
 
-/// Whether an element with a quantifier, by its number, cannot be absent: NONE or PLUS.
-pub fn needs_filling(quantifier: u32) -> bool
-    requires { quantifier ≤ 3 }
-    ensures { result ≡ not (skips (quantifier_of quantifier)) }
-{
-    (quantifier == 0) | (quantifier == 3)
-}
-
 /// Refusals 3, 4, 6 and 8 to 13 of the change that inserts an element, or the place.
 pub fn insert_element_refusal(
     store: &[u8],
@@ -100,9 +92,7 @@ pub fn insert_element_refusal(
     if !records::is_value(w, text) {
         return Err(Refusal::BadValue);
     }
-    if quantifier > 3 {
-        return Err(Refusal::BadCode);
-    }
+    let mark = Quantifier::try_from(quantifier)?;
     let n = layout::definition_count(store);
     let o = owner as usize;
     let i = definition as usize;
@@ -112,6 +102,6 @@ pub fn insert_element_refusal(
     if i >= n {
         return Err(Refusal::Unknown);
     }
-    let needed = needs_filling(quantifier);
+    let needed = !model::skips(mark);
     place_refusal(store, o, place, i, needed, text.len() == 0)
 }

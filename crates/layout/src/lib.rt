@@ -6,6 +6,7 @@ ghost use Rattle.std.specs.Prelude.{◌≡◌, min, ◌+◌, ◌-◌, ◌*◌, �
 ghost use Rattle.rules.specs.Layout.{value_width, header_size, definition_size, particle_size, attribute_size, row_size};
 ghost use Rattle.rules.specs.Decode.{number_at, version_in, next_serial, read_definition, read_particle, read_attribute, read_row, definition_count, particle_count, attribute_count, row_count};
 ghost use Rattle.rules.specs.RowSorts.{read_sort};
+ghost use Rattle.rules.specs.Codes.{read_group};
 ghost use Rattle.codec.specs.Part.{part_of};
 ghost use Rattle.layout.specs.Fields.{definition_entry_at, particle_entry_at, attribute_entry_at, row_entry_at, attribute_length, row_length, unused_fit};
 ghost use Rattle.layout.specs.Bodies.{Width, window_of, Product, record_at, Number, WidthIn, ShapeFits, ShapeOf, attributes_start, rows_start, Place};
@@ -17,7 +18,7 @@ ghost use Rattle.layout.specs.Rows.{RowsIn};
 pub mod rows;
 
 use rows::Rows;
-use rules::RowSort;
+use rules::{GroupKind, RowSort};
 
 pub const HEADER_SIZE: usize = 40;
 
@@ -626,6 +627,16 @@ pub fn particle_sort(rec: &[u8]) -> u8
     ensures { result ≡ (read_particle rec.now).row.sort }
 {
     codec::byte(rec, 0)
+}
+
+/// The kind of a particle that is a group; none where it is an element.
+pub fn group_kind_of(rec: &[u8]) -> Option<GroupKind>
+    ensures { result ≡ read_group (read_particle rec.now).row.sort }
+{
+    match particle_sort(rec) {
+        0 => None,
+        sort => Some(GroupKind::from(sort)),
+    }
 }
 
 pub fn particle_quantifier(rec: &[u8]) -> u8

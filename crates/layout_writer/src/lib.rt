@@ -2,11 +2,15 @@
 #![tactic(auto)]
 
 ghost use Rattle.std.specs.Prelude.{◌∷◌, ◌+◌, ◌<◌, ◌≤◌, length};
-ghost use Rattle.rules.specs.Layout.{name_width, attribute_size, entry, field, definition_bytes, particle_bytes, attribute_bytes};
+ghost use Rattle.rules.specs.Layout.{name_width, attribute_size, entry, field, quantifier_code, sort_code, definition_bytes, particle_bytes, attribute_bytes};
+ghost use Rattle.rules.specs.Kinds.{kind_number};
 ghost use Rattle.codec.specs.Laid.{Laid};
 ghost use Rattle.layout.specs.Bodies.{Width};
 ghost use Rattle.layout.specs.RecordBytes.{definition_of, attribute_of, flat_particle, indexed_bytes, owned_bytes, counted_bytes};
 ghost use Rattle.layout.specs.Header.{contents, headed};
+ghost use Rattle.layout_writer.specs.Sorts.{sort_number};
+
+use rules::{AttributeSort, GroupKind, Kind, Quantifier};
 
 // ---- the header, written
 
@@ -81,12 +85,12 @@ fn put_value(s: &[u8], width: usize, out: &mut [u8], at: usize) -> usize
 }
 
 /// Writes a definition.
-pub fn put_definition(name: &[u8], kind: u8, particles: u32, out: &mut [u8], at: usize) -> usize
+pub fn put_definition(name: &[u8], kind: Kind, particles: u32, out: &mut [u8], at: usize) -> usize
     requires { (length name.now ≤ name_width) × (at < 1152921504606846976) }
-    ensures { Laid (definition_bytes (definition_of name.now kind particles)) out.old at result out.new }
+    ensures { Laid (definition_bytes (definition_of name.now (kind_number kind) particles)) out.old at result out.new }
 {
     let a = put_value(name, layout::NAME_WIDTH, out, at);
-    let b = codec::put_u8(out, a, kind);
+    let b = codec::put_u8(out, a, u8::from(kind));
     codec::put_u16(out, b, particles)
 }
 
@@ -95,17 +99,17 @@ pub fn put_attribute(
     w: usize,
     owner: u8,
     name: &[u8],
-    sort: u8,
+    sort: AttributeSort,
     value: &[u8],
     out: &mut [u8],
     at: usize,
 ) -> usize
     requires { Width w × (length name.now ≤ name_width) × (length value.now ≤ w) × (at < 1152921504606846976) }
-    ensures { Laid (attribute_bytes w (attribute_of owner name.now sort value.now)) out.old at result out.new }
+    ensures { Laid (attribute_bytes w (attribute_of owner name.now (sort_code sort) value.now)) out.old at result out.new }
 {
     let a = codec::put_u8(out, at, owner);
     let b = put_value(name, layout::NAME_WIDTH, out, a);
-    let c = codec::put_u8(out, b, sort);
+    let c = codec::put_u8(out, b, u8::from(sort));
     put_value(value, w, out, c)
 }
 
@@ -129,7 +133,8 @@ pub fn put_attribute_moved(w: usize, rec: &[u8], owner: u8, out: &mut [u8], at: 
     codec::put(layout::window(rec, 1, 20 + w), out, next)
 }
 
-/// Writes a particle.
+/// Writes a particle. Its sort and its quantifier are bytes: `model_writer` writes the particles of a store again,
+/// whatever theirs are.
 pub fn put_particle(
     sort: u8,
     quantifier: u8,
@@ -145,6 +150,22 @@ pub fn put_particle(
     let b = codec::put_u8(out, a, quantifier);
     let c = codec::put_u8(out, b, index);
     codec::put_u8(out, c, depth)
+}
+
+/// Writes a new particle: a group of a kind, or an element.
+pub fn put_new_particle(
+    kind: Option<GroupKind>,
+    quantifier: Quantifier,
+    index: u8,
+    depth: u8,
+    out: &mut [u8],
+    at: usize,
+) -> usize
+    requires { at < 9223372036854775808 }
+    ensures { Laid (particle_bytes (flat_particle (sort_number kind) (quantifier_code quantifier) index depth)) out.old at result out.new }
+{
+    let sort = kind.map_or(0, u8::from);
+    put_particle(sort, u8::from(quantifier), index, depth, out, at)
 }
 
 /// Writes all definitions, number o with n particles.

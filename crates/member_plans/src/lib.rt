@@ -9,6 +9,7 @@ ghost use Rattle.plans.specs.ModelCalls.{insert_element_plan, remove_element_pla
 ghost use Rattle.place_marks.specs.Marking.{marks_at};
 
 use row_walk::{Plan, Which};
+use rules::Quantifier;
 
 /// 3: the plan for the gap before particle p of the owner's part, which is on the spine or not.
 pub fn inserting_plan(
@@ -22,7 +23,7 @@ pub fn inserting_plan(
     requires { (p ≤ 256) × (quantifier ≤ 3) }
     ensures { result ≡ insert_element_plan owner (marks_at 0 p part.now) definition (not (skips (quantifier_of quantifier)) && spine) }
 {
-    let needs = insert_refusals::needs_filling(quantifier) & spine;
+    let needs = !model::skips(Quantifier::from(quantifier as u8)) & spine;
     plans::insert_element_plan(owner, place_marks::marks(part, p, 0), definition, needs)
 }
 

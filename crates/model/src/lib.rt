@@ -7,7 +7,7 @@ ghost use Rattle.std.specs.Prelude.{◌≡◌, ◌≤◌, length, drop};
 ghost use Rattle.rules.specs.Decode.{read_particle};
 ghost use Rattle.rules.specs.Model.{skips};
 ghost use Rattle.rules.specs.Quantifiers.{relaxes};
-ghost use Rattle.model.specs.Particle.{what_of, particle_of, kind_in};
+ghost use Rattle.model.specs.Particle.{particle_of, kind_in};
 
 use rules::{GroupKind, Quantifier};
 
@@ -22,15 +22,6 @@ pub enum What {
 pub struct Particle {
     pub what: What,
     pub quantifier: Quantifier,
-}
-
-fn read_what(sort: u8, n: usize) -> What
-    ensures { result ≡ what_of sort n }
-{
-    match sort {
-        0 => What::Element(n),
-        _ => What::Group(GroupKind::from(sort), n),
-    }
 }
 
 /// A group's kind; an element counts as a LIST.
@@ -50,7 +41,10 @@ pub fn read_particle(s: &[u8], at: usize) -> Particle
 {
     let rec = &s[at..];
     let index = layout::particle_index(rec) as usize;
-    let what = read_what(layout::particle_sort(rec), index);
+    let what = match layout::group_kind_of(rec) {
+        None => What::Element(index),
+        Some(kind) => What::Group(kind, index),
+    };
     let quantifier = Quantifier::from(layout::particle_quantifier(rec));
     Particle { what, quantifier }
 }

@@ -6,7 +6,8 @@ ghost use Rattle.rules.specs.Bytes.{any};
 ghost use Rattle.model_check.specs.ModelTests.{model_fits};
 ghost use Rattle.model_check.specs.Particles.{particle_record_at, particles_read, same_element, count_fits, count_beside, particle_stands};
 
-// the sort of a particle that is an element; the others are groups
+// The sort of a particle that is an element; the others are groups. Sorts and quantifiers are compared as the bytes
+// that they are: whether a byte is a code at all is what is tested here, and an enum would have answered that.
 const ELEMENT: usize = 0;
 
 // How many particles stand beside one another at depth k, from particle `from` on: the scan ends at a depth below k.

@@ -1,12 +1,18 @@
 -- The particles of the content of a definition: those of its model, if it has one.
 use Prim.Native.Nat.{ℕ, ◌+◌, ◌*◌, ◌<◌, ◌≤◌}
 use mathlib.Core.Path.{◌≡◌, refl, sym, ap, ◌∙◌}
-use mathlib.Core.Bool.{Bool, true, false}
+use mathlib.Core.Bool.{Bool, true, false, false≢true}
 use mathlib.Core.List.{List, [], ◌∷◌}
 use native.Mathlib.Omega.{arith}
-use borrow.Author.Tests.{eq-eqb, ne_eqb}
+use borrow.Author.Tests.{eq-eqb, ne_eqb, eqb-true}
+use denote.Enum.Bare.{sameb}
 use lib.Dec.{eqb}
 use lib.ListN.{length, drop, length-drop}
+use Rattle.rules.specs.declared.Kind.{Kind}
+use Rattle.rules.specs.declared.Kind.TheVariants.{Complex}
+use Rattle.rules.specs.contracts.Kind.{the_type}
+use Rattle.rules.specs.Kinds.{kind_number}
+use Rattle.rules.proofs.KindLaws.{kind_test}
 use Rattle.rules.specs.Bytes.{Bytes}
 use Rattle.rules.specs.Preorder.{Deep}
 use Rattle.rules.specs.Layout.{particle_size, FlatParticle, particle_bytes, each}
@@ -16,6 +22,13 @@ use Rattle.codec.proofs.Writers.{laid_none, laid_as}
 use Rattle.declaration_scan.specs.Declared.{declared_kind, model_from, model_of_content}
 use Rattle.model_scan.specs.Scanning.{depth_after, starts_here, shallow, Measures}
 use Rattle.model_scan.proofs.ModelLaws.{Alike, model_alike, model_starts, model_goes}
+
+-- ---- the kind compared with COMPLEX
+pub is_model : (kind : Kind) {b : Bool} → b ≡ sameb the_type kind Complex → b ≡ true → kind_number kind ≡ 2
+is_model kind e h = eqb-true _ _ (sym (kind_test kind Complex) ∙ sym e ∙ h)
+
+pub no_model : (kind : Kind) {b : Bool} → b ≡ sameb the_type kind Complex → b ≡ false → kind_number kind ≡ 2 → ⊥
+no_model kind e h z = false≢true (sym h ∙ e ∙ kind_test kind Complex ∙ eq-eqb _ _ z)
 
 -- by the test of the kind
 abbrev model_by : Bool → List (Deep FlatParticle) → List (Deep FlatParticle)

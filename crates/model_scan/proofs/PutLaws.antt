@@ -27,9 +27,9 @@ use Rattle.model_scan.specs.Scanning.{depth_after, Groups, starts_here, particle
 use Rattle.model_scan.proofs.ModelLaws.{model_starts, model_goes, particle_depth, depth_few}
 
 -- ---- one particle
-pub group_laid : (txt : Bytes) (d : ℕ) {kind count mark a b : ℕ} {out out' : Bytes} {at r : ℕ} → Groups txt kind count mark → a ≡ kind → b ≡ mark
-    → Laid (particle_bytes (flat_particle a b count d)) out at r out' → Laid (particle_bytes (group_here d txt)) out at r out'
-group_laid txt d g e f l = laid_as (λ i. particle_bytes (flat_particle (sym (e ∙ g.kind_is) i) (sym (f ∙ g.mark_is) i) (sym g.count_is i) d)) l
+pub group_laid : (txt : Bytes) (d : ℕ) {kind count mark : ℕ} {out out' : Bytes} {at r : ℕ} → Groups txt kind count mark
+    → Laid (particle_bytes (flat_particle kind mark count d)) out at r out' → Laid (particle_bytes (group_here d txt)) out at r out'
+group_laid txt d g l = laid_as (λ i. particle_bytes (flat_particle (sym g.kind_is i) (sym g.mark_is i) (sym g.count_is i) d)) l
 
 -- the place of a name, or the number past the last
 place_is : {n place : ℕ} (r : Option ℕ) → PlaceIn n place r → unwrap_or r n ≡ place
@@ -43,12 +43,12 @@ place_small (Some i) p = omega (arith, p.found.1)
 pub place_low : {n place k : ℕ} (r : Option ℕ) → PlaceIn n place r → k ≡ unwrap_or r n → k ≤ n
 place_low r p e = rw e (place_small r p)
 
-pub element_laid : (ns : List Bytes) (txt : Bytes) (d n : ℕ) {name after : Bytes} {r : Option ℕ} {place code mark : ℕ} {out out' : Bytes} {at k : ℕ}
-    → NameOf (name_here txt) name → PlaceIn n (place_among name ns) r → place ≡ unwrap_or r n → after ≡ after_while in_name txt → code ≡ mark_code after → mark ≡ code
+pub element_laid : (ns : List Bytes) (txt : Bytes) (d n : ℕ) {name after : Bytes} {r : Option ℕ} {place mark : ℕ} {out out' : Bytes} {at k : ℕ}
+    → NameOf (name_here txt) name → PlaceIn n (place_among name ns) r → place ≡ unwrap_or r n → after ≡ after_while in_name txt → mark ≡ mark_code after
     → Laid (particle_bytes (flat_particle 0 mark place d)) out at k out' → Laid (particle_bytes (element_here ns d txt)) out at k out'
-element_laid ns txt d n {r = r} m p u a e f l =
+element_laid ns txt d n {r = r} m p u a e l =
     let here = sym (u ∙ place_is r p ∙ ap (λ (z : Bytes). place_among z ns) m.value) in
-    let marked = sym (f ∙ e ∙ ap mark_code a) in
+    let marked = sym (e ∙ ap mark_code a) in
     laid_as (λ i. particle_bytes (flat_particle 0 (marked i) (here i) d)) l
 
 -- ---- the particle that begins here

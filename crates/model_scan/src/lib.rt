@@ -8,7 +8,7 @@ ghost use Rattle.declaration_scan.specs.Declared.{element_here, group_here, mode
 ghost use Rattle.declaration_scan.specs.Names.{written_names};
 ghost use Rattle.model_scan.specs.Scanning.{depth_after, kind_after, count_on, Groups, starts_here, shallow, Measures, starting_here};
 
-use rules::{GroupKind, Quantifier};
+use rules::{GroupKind, Kind, Quantifier};
 
 // How deep the byte after x stands.
 fn depth_after(x: u8, depth: usize) -> usize
@@ -120,9 +120,7 @@ fn put_group(text: &[u8], depth: u8, out: &mut [u8], at: usize) -> usize
     ensures { Laid (particle_bytes (group_here depth text.now)) out.old at result out.new }
 {
     let group = grouped_at(text);
-    let kind = u8::from(group.kind);
-    let mark = u8::from(group.mark);
-    layout_writer::put_particle(kind, mark, group.count, depth, out, at)
+    layout_writer::put_new_particle(Some(group.kind), group.mark, group.count, depth, out, at)
 }
 
 // Writes the element that stands here, of one of n definitions; the number n if none of them has its name.
@@ -133,7 +131,7 @@ fn put_element(defs: &[u8], n: usize, text: &[u8], depth: u8, out: &mut [u8], at
     let name = declaration_scan::name_here(text);
     let place = declaration_scan::definition_place(defs, n, name).unwrap_or(n);
     let mark = declaration_scan::mark_code(declaration_scan::after_name(text));
-    layout_writer::put_particle(0, u8::from(mark), place as u8, depth, out, at)
+    layout_writer::put_new_particle(None, mark, place as u8, depth, out, at)
 }
 
 // Writes the particle that begins at the first byte, if one does.
@@ -183,7 +181,7 @@ fn put_model(defs: &[u8], n: usize, text: &[u8], out: &mut [u8], start: usize) -
 pub fn measure_content(content: &[u8]) -> Measured
     ensures { Measures (model_of_content [] content.now) result.count result.shallow }
 {
-    if declaration_scan::declared_kind(content) == 2 {
+    if declaration_scan::declared_kind(content) == Kind::Complex {
         return measure_model(codec::after(content, 1));
     }
     Measured {
@@ -198,7 +196,7 @@ pub fn put_content(defs: &[u8], n: usize, content: &[u8], out: &mut [u8], at: us
         × (at + particle_size * length (model_of_content (written_names n defs.now) content.now) < 2305843009213693952) }
     ensures { Laid (each particle_bytes (model_of_content (written_names n defs.now) content.now)) out.old at result out.new }
 {
-    if declaration_scan::declared_kind(content) == 2 {
+    if declaration_scan::declared_kind(content) == Kind::Complex {
         return put_model(defs, n, codec::after(content, 1), out, at);
     }
     at

@@ -26,6 +26,7 @@ pub enum Edit {
 
 // ---- particles
 
+// The depth of a particle one deeper, or else one less deep: a truth and no closure, as the definition `shift` has it.
 fn shifted(depth: u8, deeper: bool) -> u8
     requires { shift deeper depth < 256 }
     ensures { result ≡ shift deeper depth }
@@ -92,8 +93,7 @@ fn put_inserted(
     requires { Tail (insert q index) d ys.now at }
     ensures { Laid (each particle_bytes (tail_after (insert q index) d (particles_of ys.now))) out.old at result out.new }
 {
-    let code = u8::from(q);
-    let next = layout_writer::put_particle(0, code, index as u8, d as u8, out, at);
+    let next = layout_writer::put_new_particle(None, q, index as u8, d as u8, out, at);
     codec::put(ys, out, next)
 }
 
@@ -120,8 +120,14 @@ fn put_grouped(ys: &[u8], kind: GroupKind, n: usize, d: usize, out: &mut [u8], a
     requires { Tail (convert kind n) d ys.now at }
     ensures { Laid (each particle_bytes (tail_after (convert kind n) d (particles_of ys.now))) out.old at result out.new }
 {
-    let code = u8::from(kind);
-    let next = layout_writer::put_particle(code, 0, n as u8, d as u8, out, at);
+    let next = layout_writer::put_new_particle(
+        Some(kind),
+        Quantifier::None,
+        n as u8,
+        d as u8,
+        out,
+        at,
+    );
     put_moved(ys, d, n, true, out, next)
 }
 

@@ -7,8 +7,8 @@ ghost use Rattle.form_index.specs.Reading.{index_form_of};
 ghost use Rattle.form_table.specs.Table.{Needed};
 ghost use Rattle.next_row.specs.Judge.{child_may, children_end, attribute_may, row_may, rows_end, may, ends};
 
-use form_index::Kind;
 use form_table::FormTable;
+use rules::Kind;
 
 /// An element that is open: its definition, 1 and the first attribute that may still come (0: none may), and 1 and its
 /// last child's index (0: no child yet).

@@ -1,8 +1,10 @@
-//! Which refusal of the changes 5 and 8 applies to a store that passes, or the place.
+//! Which refusal of the changes 5 and 8 applies to a store that passes, or the place. A quantifier comes as the `u32`
+//! that a caller in C gives, as one that is no code is refused here.
 #![tactic(auto)]
 
-ghost use Rattle.std.specs.Prelude.{◌≡◌, true, false};
+ghost use Rattle.std.specs.Prelude.{◌≡◌, true, false, IfOk};
 ghost use Rattle.rules.specs.Quantifiers.{many, gains, cuts};
+ghost use Rattle.rules.specs.Decode.{quantifier_of};
 ghost use Rattle.rules.specs.Given.{number_given};
 ghost use Rattle.rules.specs.Passing.{passes};
 ghost use Rattle.rules.specs.Refusal.{first, conditions};
@@ -43,21 +45,25 @@ fn is_off(spine: bool, old: Quantifier, new: Quantifier, group: bool) -> bool
     (!model::relaxes(old, new) & !spine) | (group & cuts(old, new))
 }
 
-// Refusals 3, 4 and 6 of a new quantifier.
-fn early_refusal(store: &[u8], owner: u32, quantifier: u32, text: &[u8]) -> Result<(), Refusal>
-    ensures { Gives (number_given result) (early_tests owner quantifier text.now store.now) }
+// Refusals 3, 4 and 6 of a new quantifier, or the quantifier.
+fn early_refusal(
+    store: &[u8],
+    owner: u32,
+    quantifier: u32,
+    text: &[u8],
+) -> Result<Quantifier, Refusal>
+    ensures { Gives (number_given result) (early_tests owner quantifier text.now store.now)
+        × IfOk result (λ new. new ≡ quantifier_of quantifier) }
 {
     let w = layout::width_in(store);
     if !records::is_value(w, text) {
         return Err(Refusal::BadValue);
     }
-    if quantifier > 3 {
-        return Err(Refusal::BadCode);
-    }
+    let new = Quantifier::try_from(quantifier)?;
     if owner as usize >= layout::definition_count(store) {
         return Err(Refusal::Unknown);
     }
-    Ok(())
+    Ok(new)
 }
 
 // Refusals 12 and 13 of a new quantifier.
@@ -94,8 +100,7 @@ pub fn requantify_refusal(
     ensures { (number_given result ≡ first (conditions (requantify group owner place.now quantifier text.now) (store_in store.now)))
         × Finds store.now owner false place.now result }
 {
-    early_refusal(store, owner, quantifier, text)?;
-    let new = Quantifier::from(quantifier as u8);
+    let new = early_refusal(store, owner, quantifier, text)?;
     let x = model_places::pick(store, owner, place).ok_or(Refusal::NoPlace)?;
     let is_group = match x.member.what {
         What::Element(_) => false,

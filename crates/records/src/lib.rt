@@ -42,8 +42,8 @@ pub fn is_value(w: usize, s: &[u8]) -> bool
     (s.len() <= w) & byte_check::all_printable(s)
 }
 
-// Whether a value may stand in an attribute of a sort.
-fn is_fill(sort: AttributeSort, value: &[u8]) -> bool
+/// Whether a value may stand in an attribute of a sort.
+pub fn is_fill(sort: AttributeSort, value: &[u8]) -> bool
     ensures { result ≡ is_fill sort value.now }
 {
     match sort {

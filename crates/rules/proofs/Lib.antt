@@ -44,3 +44,4 @@ pub mod LowestLaws
 pub mod SmallBytes
 pub mod PlanLaws
 pub mod RowSortLaws
+pub mod KindLaws

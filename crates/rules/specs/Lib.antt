@@ -25,3 +25,5 @@ pub mod Book
 pub mod Run
 pub mod MadeTakenGiven
 pub mod RowSorts
+pub mod Kinds
+pub mod Codes

@@ -1,11 +1,67 @@
 //! The types that the definitions of specs/ and the code of the crates above share.
 #![tactic(auto)]
 
-ghost use Rattle.std.specs.Prelude.{◌≡◌};
+ghost use Rattle.std.specs.Prelude.{◌≡◌, ◌<◌, ◌≤◌, MatchResult};
+ghost use Rattle.rules.specs.declared.Refusal.TheVariants.{BadCode};
 ghost use Rattle.rules.specs.Layout.{quantifier_code, group_code, sort_code};
 ghost use Rattle.rules.specs.Decode.{quantifier_of, group_of, sort_of};
+ghost use Rattle.rules.specs.Kinds.{kind_by, kind_number};
 ghost use Rattle.rules.specs.RowSorts.{row_number, read_sort};
+ghost use Rattle.rules.specs.Codes.{IsCodeUpTo, IsGroupCode};
 ghost use Rattle.rules.specs.Given.{refusal_number};
+
+// What has the code that a call gives, of things with the codes from 0 to the last.
+fn read_code<T: From<u8>>(last: u8, code: u32) -> Result<T, Refusal>
+    ensures { MatchResult result (λ x. T.from_gives code x × (code ≤ last)) (λ e. (e ≡ BadCode) × (last < code)) }
+{
+    if code > u32::from(last) {
+        return Err(Refusal::BadCode);
+    }
+    Ok(T::from(code as u8))
+}
+
+/// What an element of a definition has below it, besides its attributes' rows: nothing, one text, or elements by the
+/// definition's model.
+#[derive(Clone, Copy, Debug, PartialEq, Eq)]
+pub enum Kind {
+    Empty,
+    Pcdata,
+    Complex,
+}
+
+impl From<u8> for Kind {
+    ghost from_gives = { λ code kind. kind ≡ kind_by code };
+
+    /// The kind whose code this is in the store; every code above 1 is read as that of COMPLEX. Each of these enums has
+    /// its own table: one reader of them all would be given the table as pairs, and is no plainer.
+    fn from(code: u8) -> Kind {
+        match code {
+            0 => Kind::Empty,
+            1 => Kind::Pcdata,
+            _ => Kind::Complex,
+        }
+    }
+}
+
+impl From<Kind> for u8 {
+    ghost from_gives = { λ kind code. code ≡ kind_number kind };
+
+    /// The code in the store.
+    fn from(content: Kind) -> u8 {
+        content as u8
+    }
+}
+
+impl TryFrom<u32> for Kind {
+    type Error = Refusal;
+
+    ghost try_from_gives = { IsCodeUpTo 2 kind_by };
+
+    /// The kind whose code a call gives.
+    fn try_from(code: u32) -> Result<Kind, Refusal> {
+        read_code(Kind::Complex as u8, code)
+    }
+}
 
 /// How often a particle may stand.
 #[derive(Clone, Copy, Debug, PartialEq, Eq)]
@@ -39,6 +95,17 @@ impl From<Quantifier> for u8 {
     }
 }
 
+impl TryFrom<u32> for Quantifier {
+    type Error = Refusal;
+
+    ghost try_from_gives = { IsCodeUpTo 3 quantifier_of };
+
+    /// The quantifier whose code a call gives.
+    fn try_from(code: u32) -> Result<Quantifier, Refusal> {
+        read_code(Quantifier::Plus as u8, code)
+    }
+}
+
 /// The kind of a group: LIST is Sequence.
 #[derive(Clone, Copy, Debug, PartialEq, Eq)]
 pub enum GroupKind {
@@ -68,8 +135,23 @@ impl From<GroupKind> for u8 {
     }
 }
 
-/// The sort of an attribute: IMPLIED, its rows may be left out; REQUIRED, each element has one; FIXED, its rows have the
-/// attribute's own value.
+impl TryFrom<u32> for GroupKind {
+    type Error = Refusal;
+
+    ghost try_from_gives = { IsGroupCode };
+
+    /// The kind whose code a call gives.
+    fn try_from(code: u32) -> Result<GroupKind, Refusal> {
+        match code {
+            1 => Ok(GroupKind::Sequence),
+            2 => Ok(GroupKind::Choice),
+            _ => Err(Refusal::BadCode),
+        }
+    }
+}
+
+/// The sort of an attribute: IMPLIED, its rows may be left out; REQUIRED, each element has one; FIXED, its rows have
+/// the attribute's own value.
 #[derive(Clone, Copy, Debug, PartialEq, Eq)]
 pub enum AttributeSort {
     Implied,
@@ -96,6 +178,17 @@ impl From<AttributeSort> for u8 {
     /// The code in the store.
     fn from(sort: AttributeSort) -> u8 {
         sort as u8
+    }
+}
+
+impl TryFrom<u32> for AttributeSort {
+    type Error = Refusal;
+
+    ghost try_from_gives = { IsCodeUpTo 2 sort_of };
+
+    /// The sort whose code a call gives.
+    fn try_from(code: u32) -> Result<AttributeSort, Refusal> {
+        read_code(AttributeSort::Fixed as u8, code)
     }
 }
 

@@ -1,7 +1,6 @@
 use mathlib.Core.Bool.{true}
 use Prim.Native.Nat.{◌+◌, ◌*◌, ◌-◌}
 use Rattle.rules.specs.Preorder.{build}
-use Rattle.rules.specs.Decode.{group_of}
 use Rattle.printing_parts.specs.Parts.{particles_from, names_of}
 use Rattle.declaration_printing.specs.Declarations.{members_text}
 use Rattle.printing_parts.proofs.WalkLaws.{Walk}
@@ -17,8 +16,8 @@ decreases-put_members l = 2 * (l.end - l.from) + 1
 -- `from` on; `first`: no member is written yet.
 abbrev pub invariant-put_members-loop-i : goal.invariant-put_members-loop-i
 invariant-put_members-loop-i l =
-    Walk (particles_from l.store l.end) (members_text (names_of l.store) (group_of l.kind))
-    (members_text (names_of l.store) (group_of l.kind) true (build (particles_from l.store l.end l.from) l.depth)) l.end l.from l.depth l.start l.initial.out l.i l.at l.first l.out
+    Walk (particles_from l.store l.end) (members_text (names_of l.store) l.kind)
+    (members_text (names_of l.store) l.kind true (build (particles_from l.store l.end l.from) l.depth)) l.end l.from l.depth l.start l.initial.out l.i l.at l.first l.out
 
 abbrev pub decreases-put_members-loop-i : goal.decreases-put_members-loop-i
 decreases-put_members-loop-i l = l.end - l.i

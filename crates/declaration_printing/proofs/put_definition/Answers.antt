@@ -11,6 +11,6 @@ definition-requires c =
 pub returns : goal.returns
 returns c =
     let a = c.args in
-    definition_laid a.store.now a.o a.end a.from _ c.definition.ensures c.requires.0 _
-    c.definition_kind-kind.ensures c.put-signed.ensures c.name_of.ensures c.put-named.ensures
+    definition_laid a.store.now a.o a.end a.from _ c.definition.ensures c.requires.0 _ _
+    c.definition_kind.ensures c.from-kind.ensures c.put-signed.ensures c.name_of.ensures c.put-named.ensures
     c.put_u8-spaced.ensures c.put_content-filled.ensures c.put.ensures

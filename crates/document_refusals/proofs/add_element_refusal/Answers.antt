@@ -6,12 +6,13 @@ use mathlib.Core.Path.{refl, ap, subst, ◌∙◌}
 use native.Mathlib.Numerals.{add-one}
 use Prim.Native.Nat.{ℕ, suc}
 use Rattle.std.proofs.lemmas.Result.{err_from_is_err_and}
+use Rattle.rules.specs.declared.Kind.TheVariants.{Complex}
 use Rattle.rules.specs.declared.Refusal.TheVariants.{NoRow}
 use Rattle.store_check.proofs.StoreFacts.{Whole, whole}
 use Rattle.document_rows.specs.Finding.{ElementRowAt, fits_at}
 use Rattle.document_rows.proofs.ElementFacts.{element_there, element_absent}
 use Rattle.document_rows.proofs.RowFacts.{row_of}
-use Rattle.document_refusals.proofs.RefusalLaws.{some_number, refused_number}
+use Rattle.document_refusals.proofs.RefusalLaws.{other_kind_is, same_kind_is, kind_read, some_number, refused_number}
 use Rattle.document_refusals.proofs.ElementRefusals.{add_early, add_7, add_8, add_15, add_0, other_kind, complex_kind, definition_small}
 use Rattle.document_refusals.proofs.add_element_refusal.Goals as goal
 
@@ -45,13 +46,14 @@ returns-then-not-has_place c =
 pub kind_at-requires : goal.kind_at-requires
 kind_at-requires c = row_of _ (whole _ c.requires) (subst (ElementRowAt c.args.store.now c.args.parent) c.in_ok-i.ensures.ok_part c.find_element.ensures)
 
-pub returns-then-kind_at-ne-COMPLEX : goal.returns-then-kind_at-ne-COMPLEX
-returns-then-kind_at-ne-COMPLEX c =
+pub returns-then-ne : goal.returns-then-ne
+returns-then-ne c =
     let a = c.args in
     let w : Whole a.store.now = whole _ c.requires in
     let e = element_there _ w _ (subst (ElementRowAt a.store.now a.parent) c.in_ok-i.ensures.ok_part c.find_element.ensures) in
     (add_15 a.store.now w a.parent a.child a.definition a.text.now c.in_ok-add_document_refusal.ensures refl e c.has_place.ensures (ap not c.if-not-has_place.false)
-    (other_kind _ w e c.kind_at.ensures (fits_at a.store.now c.in_ok-i.i (suc a.child) a.definition 0) c.if-kind_at-ne-COMPLEX.true) refl).is
+    (other_kind _ w e (kind_read _ w e c.kind_at.ensures) (fits_at a.store.now c.in_ok-i.i (suc a.child) a.definition 0)
+    (other_kind_is _ Complex c.ne.ensures c.if-ne.true)) refl).is
 
 pub fits_at-requires : goal.fits_at-requires
 fits_at-requires c =
@@ -67,7 +69,8 @@ returns-then-not-fits_at c =
     let w : Whole a.store.now = whole _ c.requires in
     let e = element_there _ w _ (subst (ElementRowAt a.store.now a.parent) c.in_ok-i.ensures.ok_part c.find_element.ensures) in
     (add_15 a.store.now w a.parent a.child a.definition a.text.now c.in_ok-add_document_refusal.ensures refl e c.has_place.ensures (ap not c.if-not-has_place.false)
-    (complex_kind _ w e c.kind_at.ensures (fits_at a.store.now c.in_ok-i.i (suc a.child) a.definition 0) c.if-kind_at-ne-COMPLEX.false
+    (complex_kind _ w e (kind_read _ w e c.kind_at.ensures) (fits_at a.store.now c.in_ok-i.i (suc a.child) a.definition 0)
+    (same_kind_is _ Complex c.ne.ensures c.if-ne.false)
     (c.fits_at.ensures ∙ ap (λ (n : ℕ). fits_at a.store.now c.in_ok-i.i n a.definition 0) (add-one a.child))) c.if-not-fits_at.true).is
 
 pub returns : goal.returns
@@ -76,5 +79,6 @@ returns c =
     let w : Whole a.store.now = whole _ c.requires in
     let e = element_there _ w _ (subst (ElementRowAt a.store.now a.parent) c.in_ok-i.ensures.ok_part c.find_element.ensures) in
     (add_0 a.store.now w a.parent a.child a.definition a.text.now c.in_ok-add_document_refusal.ensures refl e c.has_place.ensures (ap not c.if-not-has_place.false)
-    (complex_kind _ w e c.kind_at.ensures (fits_at a.store.now c.in_ok-i.i (suc a.child) a.definition 0) c.if-kind_at-ne-COMPLEX.false
+    (complex_kind _ w e (kind_read _ w e c.kind_at.ensures) (fits_at a.store.now c.in_ok-i.i (suc a.child) a.definition 0)
+    (same_kind_is _ Complex c.ne.ensures c.if-ne.false)
     (c.fits_at.ensures ∙ ap (λ (n : ℕ). fits_at a.store.now c.in_ok-i.i n a.definition 0) (add-one a.child))) c.if-not-fits_at.false).is

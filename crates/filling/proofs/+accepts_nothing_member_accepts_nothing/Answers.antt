@@ -5,10 +5,11 @@
 -- answer (`unsettled_by`) or leaves it to those after it (`unsettled_on`); a particle outside the group or the end of s
 -- gives the answer of no members (`unsettled_over`, `unsettled_ends`). In a group there are fewer particles, so the
 -- cycle ends.
+use mathlib.Core.Path.{refl}
 use native.Mathlib.Omega.{arith}
 use lib.ListN.{length, drop, length-take, length-drop}
 use Rattle.filling.proofs.FillingLaws.{unsettled_starts, unsettled_ends, unsettled_over, unsettled_past, unsettled_here, unsettled_by}
-use Rattle.filling.proofs.FillingLaws.{unsettled_on, absent_skips, absent_element, absent_group}
+use Rattle.filling.proofs.FillingLaws.{no_kind, kind_there, unsettled_on, absent_skips, absent_element, absent_group}
 use Prim.Native.Nat.{◌-◌}
 use Rattle.rules.specs.Layout.{particle_size}
 use Rattle.filling.proofs.+accepts_nothing_member_accepts_nothing.Goals as goal
@@ -63,13 +64,13 @@ member_accepts_nothing-accepts_nothing-requires t c =
     let s = c.args.t.now in
     (omega (arith, length-take (length s - particle_size) (drop particle_size s), length-drop particle_size s), omega arith)
 
-pub member_accepts_nothing-returns-then-sort-eq0 : goal.member_accepts_nothing-returns-then-sort-eq0
-member_accepts_nothing-returns-then-sort-eq0 t c =
+pub member_accepts_nothing-returns-in_default : goal.member_accepts_nothing-returns-in_default
+member_accepts_nothing-returns-in_default t c =
     let a = c.args in
-    absent_element a.d a.t.now _ c.is_optional.ensures c.if-is_optional.false _ c.particle_sort-sort.ensures c.if-sort-eq0.true
+    absent_element a.d a.t.now _ c.is_optional.ensures c.if-is_optional.false _ refl (no_kind _ c.in_default.ensures)
 
 pub member_accepts_nothing-returns : goal.member_accepts_nothing-returns
 member_accepts_nothing-returns t c =
     let a = c.args in
-    absent_group a.d a.t.now _ c.is_optional.ensures c.if-is_optional.false _ c.particle_sort-sort.ensures _ _
-    c.if-sort-eq0.false c.from.ensures c.accepts_nothing.ensures
+    let kind = kind_there _ _ c.in-Some.ensures in
+    absent_group a.d a.t.now _ c.is_optional.ensures c.if-is_optional.false _ refl _ _ kind.0 kind.1 c.accepts_nothing.ensures

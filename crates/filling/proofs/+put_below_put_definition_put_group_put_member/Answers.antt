@@ -13,8 +13,9 @@ use mathlib.Core.Path.{refl, sym, ◌∙◌}
 use mathlib.Core.Bool.{false}
 use lib.ListN.{take, drop, length-take, length-drop, length}
 use Rattle.rules.specs.declared.GroupKind.TheVariants.{Sequence}
+use Rattle.rules.proofs.KindLaws.{kind_none, kind_text, kind_model}
 use Rattle.row_writer.proofs.WrittenLaws.{written_stop, written_room}
-use Rattle.filling.proofs.FillingLaws.{kind_none, kind_text, kind_model, rest_starts, rest_past, rest_here, rest_on, rest_first, rest_over, rest_ends, member_skips, member_element}
+use Rattle.filling.proofs.FillingLaws.{rest_starts, rest_past, rest_here, rest_on, rest_first, rest_over, rest_ends, member_skips, member_element}
 use Rattle.filling.proofs.FillingLaws.{member_empty, member_nothing_lem, member_group, definition_low, definition_written, below_none, below_text, below_group}
 use Rattle.filling.proofs.FillingLaws.{sort_written, none_written, one_written, same_written, index_small, rank_particles, rank_part, rank_height}
 use Rattle.filling.proofs.FillingLaws.{part_short, below_nothing, filled_list, filled_choice, kind_choice, kind_list}

@@ -3,7 +3,6 @@
 -- `layout`).
 use native.Mathlib.Omega.{arith}
 use Rattle.layout.proofs.RecordLaws.{owned_laid}
-use borrow.Author.Rules.{rules}
 use Rattle.layout_writer.proofs.put_attribute_moved.Goals as goal
 
 pub returns : goal.returns

@@ -3,7 +3,6 @@
 -- the rows fits in four bytes (`place_low`).
 use native.Mathlib.Omega.{arith}
 use Rattle.layout.proofs.HeaderLaws.{place_low, place_as, contents_laid}
-use borrow.Author.Rules.{rules}
 use Rattle.layout_writer.proofs.put_contents.Goals as goal
 
 pub put_entry-requires : goal.put_entry-requires

@@ -8,7 +8,6 @@ use lib.ListN.{length}
 use Rattle.codec.proofs.Writers.{laid_as, laid_then}
 use Rattle.layout.proofs.LayoutLaws.{length_cut}
 use Rattle.layout.proofs.RecordLaws.{rest_counted}
-use borrow.Author.Rules.{rules}
 use Rattle.layout_writer.proofs.put_counted.Goals as goal
 
 pub put-requires : goal.put-requires

@@ -1,7 +1,6 @@
 -- `layout_writer::put_entry` meets its contract: the four bytes of the offset, then the four of the count, are the
 -- entry (`laid_then` of Writers in `codec`).
 use Rattle.codec.proofs.Writers.{laid_then}
-use borrow.Author.Rules.{rules}
 use Rattle.layout_writer.proofs.put_entry.Goals as goal
 
 pub returns : goal.returns

@@ -3,7 +3,6 @@
 use Rattle.codec.proofs.Writers.{laid_as, laid_then}
 use Rattle.layout.proofs.RecordLaws.{field_is}
 use native.Mathlib.Omega.{arith}
-use borrow.Author.Rules.{rules}
 use Rattle.layout_writer.proofs.put_field.Goals as goal
 
 pub returns : goal.returns

@@ -5,7 +5,6 @@ use native.Mathlib.Omega.{arith}
 use mathlib.Core.Path.{ap}
 use lib.ListN.{length, length-take}
 use Rattle.layout.proofs.HeaderLaws.{header_laid}
-use borrow.Author.Rules.{rules}
 use Rattle.layout_writer.proofs.put_header.Goals as goal
 
 pub put_contents-requires : goal.put_contents-requires

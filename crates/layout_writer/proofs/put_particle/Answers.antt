@@ -1,7 +1,6 @@
 -- `layout_writer::put_particle` meets its contract: the four bytes, laid one after the other, are `particle_bytes`
 -- (`laid_then` of Writers in `codec`).
 use Rattle.codec.proofs.Writers.{laid_then}
-use borrow.Author.Rules.{rules}
 use Rattle.layout_writer.proofs.put_particle.Goals as goal
 
 pub returns : goal.returns

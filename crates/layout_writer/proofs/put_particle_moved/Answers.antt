@@ -1,7 +1,6 @@
 -- `layout_writer::put_particle_moved` meets its contract: the record's first two bytes, the index and the depth that is
 -- read, laid one after the other, are `indexed_bytes` (`indexed_laid` of RecordLaws in `layout`).
 use Rattle.layout.proofs.RecordLaws.{indexed_laid}
-use borrow.Author.Rules.{rules}
 use Rattle.layout_writer.proofs.put_particle_moved.Goals as goal
 
 pub returns : goal.returns

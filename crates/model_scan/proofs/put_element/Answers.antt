@@ -13,4 +13,4 @@ pub returns : goal.returns
 returns c =
     let a = c.args in
     element_laid (written_names a.n a.defs.now) a.text.now _ _ c.name_here-name.ensures c.definition_place.ensures c.unwrap_or-place.ensures
-    c.after_name.ensures c.mark_code-mark.ensures c.from.ensures c.put_particle.ensures
+    c.after_name.ensures c.mark_code-mark.ensures c.put_new_particle.ensures

@@ -5,4 +5,4 @@ use Rattle.model_scan.proofs.put_group.Goals as goal
 
 pub returns : goal.returns
 returns c =
-    group_laid c.args.text.now _ c.grouped_at-group.ensures c.from-kind.ensures c.from-mark.ensures c.put_particle.ensures
+    group_laid c.args.text.now _ c.grouped_at-group.ensures c.put_new_particle.ensures

@@ -13,13 +13,13 @@ use Rattle.quantifier_refusals.proofs.QuantifierLaws.{some_refusal, same_test, o
 use Rattle.quantifier_refusals.proofs.requantify_refusal.Goals as goal
 use Rattle.quantifier_refusals.proofs.requantify_refusal.Goals.{in-Element, in-Group}
 
-pub returns-in_err-early_refusal : goal.returns-in_err-early_refusal
-returns-in_err-early_refusal c =
+pub returns-in_err-new : goal.returns-in_err-new
+returns-in_err-new c =
     let a = c.args in
     let p = err_from_is_err_and c.from_residual.result c.from_residual.ensures.1 in
     rw (p.1, p.2) (
       (requantify_early a.store.now (whole _ c.requires) a.owner a.place.now a.quantifier a.text.now
-          c.in_err-early_refusal.ensures a.group (some_refusal _)).is,
+          c.in_err-new.ensures.0 a.group (some_refusal _)).is,
       tt,
     )
 
@@ -31,7 +31,7 @@ returns-in_err-x c =
     rw (p.1, p.2) (
       ap number_given (none.value ∙ ap (λ (o : Maybe Picked). ok_or o NoPlace) none.ok_part)
           ∙ (requantify_none a.store.now (whole _ c.requires) a.owner a.place.now a.quantifier a.text.now
-          c.in_ok-early_refusal.ensures refl a.group (as_none c.pick.ensures none.ok_part)).is,
+          c.in_ok-new.ensures.0 refl a.group (as_none c.pick.ensures none.ok_part)).is,
       tt,
     )
 
@@ -43,7 +43,7 @@ returns-then-is_group-group c =
       | in-Group w ↦ ap is_group w.in-Group.is ∙ sym w.is_group-is
     ] in (
       (requantify_other a.store.now (whole _ c.requires) a.owner a.place.now a.quantifier a.text.now
-          c.in_ok-early_refusal.ensures refl a.group c.pick.ensures c.in_ok-x.ensures.ok_part (λ z. other_test _ _ c.if-is_group-group.true (sym sort ∙ z))).is,
+          c.in_ok-new.ensures.0 refl a.group c.pick.ensures c.in_ok-x.ensures.ok_part (λ z. other_test _ _ c.if-is_group-group.true (sym sort ∙ z))).is,
       tt,
     )
 
@@ -57,8 +57,8 @@ returns-in_err-quantifier_at c =
     let p = err_from_is_err_and c.from_residual-in_err-quantifier_at.result c.from_residual-in_err-quantifier_at.ensures.1 in
     rw (p.1, p.2) (
       (requantify_there a.store.now (whole _ c.requires) a.owner a.place.now a.quantifier a.text.now
-          c.in_ok-early_refusal.ensures refl a.group c.pick.ensures c.in_ok-x.ensures.ok_part (sort ∙ same_test _ _ c.if-is_group-group.false)
-          c.from-new.ensures c.in_err-quantifier_at.ensures).is,
+          c.in_ok-new.ensures.0 refl a.group c.pick.ensures c.in_ok-x.ensures.ok_part (sort ∙ same_test _ _ c.if-is_group-group.false)
+          c.in_ok-new.ensures.1 c.in_err-quantifier_at.ensures).is,
       tt,
     )
 
@@ -70,7 +70,7 @@ returns c =
       | in-Group w ↦ ap is_group w.in-Group.is ∙ sym w.is_group-is
     ] in (
       (requantify_there a.store.now (whole _ c.requires) a.owner a.place.now a.quantifier a.text.now
-          c.in_ok-early_refusal.ensures refl a.group c.pick.ensures c.in_ok-x.ensures.ok_part (sort ∙ same_test _ _ c.if-is_group-group.false)
-          c.from-new.ensures c.in_ok-quantifier_at.ensures).is,
+          c.in_ok-new.ensures.0 refl a.group c.pick.ensures c.in_ok-x.ensures.ok_part (sort ∙ same_test _ _ c.if-is_group-group.false)
+          c.in_ok-new.ensures.1 c.in_ok-quantifier_at.ensures).is,
       picked_placed c.pick.ensures c.in_ok-x.ensures.ok_part,
     )

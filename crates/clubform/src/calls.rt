@@ -46,6 +46,8 @@ pub fn create_definitions(from: &mut [u8], to: &mut [u8]) -> usize
     written(formstore::create_definition(&from[..bib], b"time", PCDATA, to))
 }
 
+// From here on the length of `from`'s store stands beside `from`: a call writes into the whole of it, too.
+
 /// The models of race and of finisher.
 pub fn insert_members(from: &mut [u8], len: usize, to: &mut [u8]) -> usize
     requires { BufferHolds (stage 4) len from.old × (length to.old ≡ 508) }

@@ -1,5 +1,5 @@
-//! The public calls, forwarded to the crates that hold them. The crate formstore_c exports them to C. They are alike, and
-//! take codes and answer numbers, because the C interface has these calls (include/formstore.h).
+//! The public calls, forwarded to the crates that hold them. The crate formstore_c exports them to C. They are alike,
+//! and take codes and answer numbers, because the C interface has these calls (include/formstore.h).
 #![tactic(auto)]
 
 ghost use Rattle.std.specs.Prelude.{◌≡◌, length};
@@ -16,9 +16,8 @@ ghost use Rattle.reading_rules.specs.Reading.{ReadPromise};
 ghost use Rattle.lookup.specs.Finding.{Hands, part_given};
 ghost use Rattle.look_up_calls.specs.Calls.{check_answer};
 
-use rules::Refusal;
-
 pub use look_up_calls::Found;
+use rules::Refusal;
 pub use store_writer::Answer;
 
 /// 0 if the store passes the check, 1 if it does not.

@@ -122,6 +122,7 @@ impl<'a> Rows<'a> {
 
 // ---- a line for each case
 
+// As in `play`: this program stands on the walk alone, and would stand on all calls with `play`.
 fn tell(what: &[u8]) {
     io::write_all(1, what);
 }

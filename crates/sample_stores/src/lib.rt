@@ -66,6 +66,9 @@ const PARTICLES: usize = 1320;
 
 const ROWS: usize = 1572;
 
+// Written byte by byte, and not by the writers of the library, whose stores are what programs try with it. Each part is
+// lent the array, whose length no call has to require.
+
 // Version 1, next serial 65, and the offsets and counts: 64 definitions, 63 particles, no attribute, 64 rows.
 fn lay_header(store: &mut [u8; DEEPEST]) {
     store[0] = 1;

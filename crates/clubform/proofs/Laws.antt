@@ -1,9 +1,9 @@
 -- What an accepted call answers.
 use Prim.Native.Nat.{ℕ, ◌≤◌, ◌-◌}
 use native.Mathlib.Omega.{arith}
-use mathlib.Core.Path.{◌≡◌, sym, ap, ap₂, ◌∙◌}
+use mathlib.Core.Path.{◌≡◌, refl, sym, ap, ap₂, ◌∙◌}
 use mathlib.Core.Bool.{true}
-use mathlib.Core.List.{◌++◌}
+use mathlib.Core.List.{[], ◌∷◌, ◌++◌}
 use lib.Dec.{eqb}
 use lib.ListN.{length, take, drop, length-append, length-drop}
 use lib.Seq.{take-append_seam, take_all}
@@ -11,7 +11,9 @@ use borrow.Author.Tests.{eq-eqb, leb-true}
 use Rattle.rules.specs.Bytes.{Bytes}
 use Rattle.rules.specs.Decode.{next_serial}
 use Rattle.rules.specs.Outcome.{Outcome, wrote, number_of, length_of, buffer_of, Answers}
-use Rattle.clubform.specs.History.{stage, Reads, BufferHolds}
+use Rattle.rules.specs.Layout.{value_width}
+use Rattle.rules.specs.Run.{run}
+use Rattle.clubform.specs.History.{history, stage, Reads, BufferHolds}
 use Rattle.clubform.proofs.Stages.{Gives, accepted}
 
 -- a call that writes `w`
@@ -31,10 +33,10 @@ written {out = out} e a =
 length_kept : (w out : Bytes) → length w ≤ length out → length (w ++ drop (length w) out) ≡ length out
 length_kept w out h = let e : length (drop (length w) out) ≡ length out - length w = length-drop (length w) out in length-append w (drop (length w) out) ∙ omega (arith, h, e)
 
--- the number is 0, and the buffer holds what is written
+-- the number is 0, and the buffer holds what is written, as long as is told of it
 pub record Answered (w : Bytes) (number len : ℕ) (left : Bytes) : Type 0 where
-  pub number_is : eqb number 0 ≡ true
-  pub holds : BufferHolds w len left
+  pub number_is : number ≡ 0
+  pub holds : {n : ℕ} → n ≡ len → BufferHolds w n left
 
 pub answered : {call : Bytes → ℕ → Outcome} {s w store out left : Bytes} {number len : ℕ} → Gives call s w → Reads s store out
     → Answers (call store (length out)) out number len left → Answered w number len left
@@ -43,15 +45,24 @@ answered {call} {s} {w} {store} {out} {left} {number} {len} g r a =
     let x : Writes w out number len left = written o a in
     let f : length w ≤ 508 = leb-true _ 508 g.fits in
     record {
-      number_is = eq-eqb number 0 x.number_is;
-      holds =
-          record {
-            room = ap length x.buffer_is ∙ length_kept w out (omega (arith, f, r.room)) ∙ r.room;
-            fits = omega (arith, x.length_is, f);
-            length_is = x.length_is;
-            begins = ap₂ (λ (k : ℕ) (b : Bytes). take k b) x.length_is x.buffer_is ∙ take-append_seam w (drop (length w) out);
-          };
+      number_is = x.number_is;
+      holds = λ e. record {
+        room = ap length x.buffer_is ∙ length_kept w out (omega (arith, f, r.room)) ∙ r.room;
+        fits = omega (arith, e, x.length_is, f);
+        length_is = e ∙ x.length_is;
+        begins = ap₂ (λ (k : ℕ) (b : Bytes). take k b) (e ∙ x.length_is) x.buffer_is ∙ take-append_seam w (drop (length w) out);
+      };
     }
+
+-- the first call reads the 40 bytes of the fresh store
+pub fresh : {out : Bytes} → length out ≡ 508
+    → Reads (stage 0) (1 ∷ 0 ∷ 0 ∷ 0 ∷ 1 ∷ 0 ∷ 0 ∷ 0 ∷ 40 ∷ 0 ∷ 0 ∷ 0 ∷ 0 ∷ 0 ∷ 0 ∷ 0 ∷ 40 ∷ 0 ∷ 0 ∷ 0 ∷ 0 ∷ 0 ∷ 0 ∷ 0 ∷ 40 ∷ 0 ∷ 0 ∷ 0 ∷ 0 ∷ 0 ∷ 0 ∷ 0 ∷ 40 ∷ 0 ∷ 0 ∷ 0 ∷ 0 ∷ 0 ∷ 0 ∷ 0 ∷ []) out
+unfolding value_width run history stage
+fresh e = record { store_is = refl; room = e }
+
+-- the next call reads what the one before it left
+pub reads : {w buffer out : Bytes} {len : ℕ} → BufferHolds w len buffer → length out ≡ 508 → Reads w (take len buffer) out
+reads h e = record { store_is = h.begins; room = e }
 
 -- the part that is handed on
 pub front : {w buffer : Bytes} {len : ℕ} → BufferHolds w len buffer → len ≡ length (take len buffer)

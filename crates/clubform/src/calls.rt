@@ -1,15 +1,20 @@
-//! The thirteen calls, in their order: each is accepted, and leaves the next store.
-ghost use Rattle.clubform.specs.History.{stage, Reads, BufferHolds};
+//! The thirteen calls, in their order: each is accepted, and leaves the next store. Two buffers take turns.
+ghost use Rattle.std.specs.Prelude.{◌≡◌, length};
+ghost use Rattle.clubform.specs.History.{stage, BufferHolds};
+
+use rules::Quantifier;
+use sample_stores::FRESH;
+use store_writer::Answer;
 
 const PCDATA: u32 = 1;
 
 const COMPLEX: u32 = 2;
 
-const NONE: u32 = 0;
+const NONE: u32 = Quantifier::None as u32;
 
-const QMARK: u32 = 1;
+const QMARK: u32 = Quantifier::Qmark as u32;
 
-const STAR: u32 = 2;
+const STAR: u32 = Quantifier::Star as u32;
 
 // The definitions, by index.
 const RACE: u32 = 0;
@@ -22,121 +27,61 @@ const TIME: u32 = 3;
 
 const CLUB: u32 = 4;
 
-pub fn create_race(store: &[u8], out: &mut [u8]) -> usize
-    requires { Reads (stage 0) store.now out.old }
-    ensures { BufferHolds (stage 1) result out.new }
+/// The length of what an accepted call wrote.
+pub fn written(answer: Answer) -> usize
+    requires { answer.number ≡ 0 }
+    ensures { result ≡ answer.length }
 {
-    let answer = formstore::create_definition(store, b"race", COMPLEX, out);
-    check::expect(answer.number == 0);
-    answer.length
+    answer.accepted().unwrap()
 }
 
-pub fn create_finisher(store: &[u8], out: &mut [u8]) -> usize
-    requires { Reads (stage 1) store.now out.old }
-    ensures { BufferHolds (stage 2) result out.new }
+/// race, finisher, bib, time.
+pub fn create_definitions(from: &mut [u8], to: &mut [u8]) -> usize
+    requires { (length from.old ≡ 508) × (length to.old ≡ 508) }
+    ensures { BufferHolds (stage 4) result to.new }
 {
-    let answer = formstore::create_definition(store, b"finisher", COMPLEX, out);
-    check::expect(answer.number == 0);
-    answer.length
+    let race = written(formstore::create_definition(&FRESH, b"race", COMPLEX, from));
+    let finisher = written(formstore::create_definition(&from[..race], b"finisher", COMPLEX, to));
+    let bib = written(formstore::create_definition(&to[..finisher], b"bib", PCDATA, from));
+    written(formstore::create_definition(&from[..bib], b"time", PCDATA, to))
 }
 
-pub fn create_bib(store: &[u8], out: &mut [u8]) -> usize
-    requires { Reads (stage 2) store.now out.old }
-    ensures { BufferHolds (stage 3) result out.new }
+// From here on the length of `from`'s store stands beside `from`: a call writes into the whole of it, too.
+
+/// The models of race and of finisher.
+pub fn insert_members(from: &mut [u8], len: usize, to: &mut [u8]) -> usize
+    requires { BufferHolds (stage 4) len from.old × (length to.old ≡ 508) }
+    ensures { BufferHolds (stage 7) result to.new }
 {
-    let answer = formstore::create_definition(store, b"bib", PCDATA, out);
-    check::expect(answer.number == 0);
-    answer.length
+    let one = written(formstore::insert_element(&from[..len], RACE, &[0], FINISHER, STAR, b"", to));
+    let two = written(formstore::insert_element(&to[..one], FINISHER, &[0], BIB, NONE, b"0", from));
+    written(formstore::insert_element(&from[..two], FINISHER, &[1], TIME, NONE, b"-", to))
 }
 
-pub fn create_time(store: &[u8], out: &mut [u8]) -> usize
-    requires { Reads (stage 3) store.now out.old }
-    ensures { BufferHolds (stage 4) result out.new }
+/// A race with one finisher, and the time. Serial 1 is the race, serial 5 the time.
+pub fn hold_race(from: &mut [u8], len: usize, to: &mut [u8]) -> usize
+    requires { BufferHolds (stage 7) len from.old × (length to.old ≡ 508) }
+    ensures { BufferHolds (stage 10) result to.new }
 {
-    let answer = formstore::create_definition(store, b"time", PCDATA, out);
-    check::expect(answer.number == 0);
-    answer.length
+    let race = written(formstore::add_document(&from[..len], RACE, b"", to));
+    let finisher = written(formstore::add_element(&to[..race], 1, 0, FINISHER, b"7", from));
+    written(formstore::set_text(&from[..finisher], 5, b"19:04", to))
 }
 
-pub fn insert_finisher(store: &[u8], out: &mut [u8]) -> usize
-    requires { Reads (stage 4) store.now out.old }
-    ensures { BufferHolds (stage 5) result out.new }
+/// The club comes in while the race is there, and the time may be missing.
+pub fn change_finisher(from: &mut [u8], len: usize, to: &mut [u8]) -> usize
+    requires { BufferHolds (stage 10) len from.old × (length to.old ≡ 508) }
+    ensures { BufferHolds (stage 13) result to.new }
 {
-    let answer = formstore::insert_element(store, RACE, &[0], FINISHER, STAR, b"", out);
-    check::expect(answer.number == 0);
-    answer.length
-}
-
-pub fn insert_bib(store: &[u8], out: &mut [u8]) -> usize
-    requires { Reads (stage 5) store.now out.old }
-    ensures { BufferHolds (stage 6) result out.new }
-{
-    let answer = formstore::insert_element(store, FINISHER, &[0], BIB, NONE, b"0", out);
-    check::expect(answer.number == 0);
-    answer.length
-}
-
-pub fn insert_time(store: &[u8], out: &mut [u8]) -> usize
-    requires { Reads (stage 6) store.now out.old }
-    ensures { BufferHolds (stage 7) result out.new }
-{
-    let answer = formstore::insert_element(store, FINISHER, &[1], TIME, NONE, b"-", out);
-    check::expect(answer.number == 0);
-    answer.length
-}
-
-pub fn new_race(store: &[u8], out: &mut [u8]) -> usize
-    requires { Reads (stage 7) store.now out.old }
-    ensures { BufferHolds (stage 8) result out.new }
-{
-    let answer = formstore::add_document(store, RACE, b"", out);
-    check::expect(answer.number == 0);
-    answer.length
-}
-
-/// Serial 1 is the race.
-pub fn add_finisher(store: &[u8], out: &mut [u8]) -> usize
-    requires { Reads (stage 8) store.now out.old }
-    ensures { BufferHolds (stage 9) result out.new }
-{
-    let answer = formstore::add_element(store, 1, 0, FINISHER, b"7", out);
-    check::expect(answer.number == 0);
-    answer.length
-}
-
-/// Serial 5 is the time.
-pub fn set_time(store: &[u8], out: &mut [u8]) -> usize
-    requires { Reads (stage 9) store.now out.old }
-    ensures { BufferHolds (stage 10) result out.new }
-{
-    let answer = formstore::set_text(store, 5, b"19:04", out);
-    check::expect(answer.number == 0);
-    answer.length
-}
-
-pub fn create_club(store: &[u8], out: &mut [u8]) -> usize
-    requires { Reads (stage 10) store.now out.old }
-    ensures { BufferHolds (stage 11) result out.new }
-{
-    let answer = formstore::create_definition(store, b"club", PCDATA, out);
-    check::expect(answer.number == 0);
-    answer.length
-}
-
-pub fn insert_club(store: &[u8], out: &mut [u8]) -> usize
-    requires { Reads (stage 11) store.now out.old }
-    ensures { BufferHolds (stage 12) result out.new }
-{
-    let answer = formstore::insert_element(store, FINISHER, &[1], CLUB, NONE, b"none", out);
-    check::expect(answer.number == 0);
-    answer.length
-}
-
-pub fn make_time_optional(store: &[u8], out: &mut [u8]) -> usize
-    requires { Reads (stage 12) store.now out.old }
-    ensures { BufferHolds (stage 13) result out.new }
-{
-    let answer = formstore::change_quantifier(store, FINISHER, &[3], QMARK, b"", out);
-    check::expect(answer.number == 0);
-    answer.length
+    let club = written(formstore::create_definition(&from[..len], b"club", PCDATA, to));
+    let inserted = written(formstore::insert_element(
+        &to[..club],
+        FINISHER,
+        &[1],
+        CLUB,
+        NONE,
+        b"none",
+        from,
+    ));
+    written(formstore::change_quantifier(&from[..inserted], FINISHER, &[3], QMARK, b"", to))
 }

@@ -1,5 +1,5 @@
 //! The public calls for C: each exported function forwards to the call of the same name in formstore, and promises the
-//! same. include/formstore.h declares them.
+//! same. They are alike, and take codes and answer numbers, because include/formstore.h declares them so.
 #![tactic(auto)]
 
 ghost use Rattle.std.specs.Prelude.{◌≡◌, length};

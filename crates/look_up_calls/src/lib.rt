@@ -4,28 +4,30 @@
 ghost use Rattle.std.specs.Prelude.{◌≡◌};
 ghost use Rattle.rules.specs.Passing.{passes};
 ghost use Rattle.rules.specs.LookUp.{look_up};
-ghost use Rattle.lookup.specs.Finding.{Looks, Hands};
+ghost use Rattle.rules.specs.Given.{number_given};
+ghost use Rattle.lookup.specs.Finding.{Looks, Hands, part_given};
 ghost use Rattle.look_up_calls.specs.Calls.{check_answer};
 
 pub use lookup::Found;
+use rules::Refusal;
 
-/// 0 if the store passes the check, 1 if it does not.
+/// 0 if the store passes the check, 1 if it does not: numbers, since C gets them from `formstore_check`
+/// (include/formstore.h).
 pub fn check(store: &[u8]) -> u32
     ensures { result ≡ check_answer (passes store.now) }
 {
     if store_check::passes(store) { 0 } else { 1 }
 }
 
-/// The part of the store that is the value of the attribute or text row with a serial, and 0; on a bad store 1, on any
-/// other serial 7, with an empty part.
-pub fn look_up<'a>(store: &'a [u8], serial: u32, number: &mut u32) -> &'a [u8]
-    ensures { Hands (look_up store.now serial) store.now result.now number.new }
+/// The part of the store that is the value of the attribute or text row with a serial. On a bad store the refusal is 1,
+/// on any other serial 7.
+pub fn look_up(store: &[u8], serial: u32) -> Result<&[u8], Refusal>
+    ensures { Hands (look_up store.now serial) store.now (part_given result) (number_given result) }
 {
     if !store_check::passes(store) {
-        *number = 1;
-        return &store[..0];
+        return Err(Refusal::BadStore);
     }
-    lookup::value_of(store, serial, number)
+    lookup::value_of(store, serial)
 }
 
 /// The look-up by places: what C callers get.
@@ -33,11 +35,7 @@ pub fn look_up_place(store: &[u8], serial: u32) -> Found
     ensures { Looks (look_up store.now serial) result.number result.start result.length }
 {
     if !store_check::passes(store) {
-        return Found {
-            number: 1,
-            start: 0,
-            length: 0,
-        };
+        return Found::from(Err(Refusal::BadStore));
     }
-    lookup::find_value(store, serial)
+    Found::from(lookup::find_value(store, serial))
 }

@@ -5,7 +5,7 @@
 //! would be the same.
 #![tactic(auto)]
 
-ghost use Rattle.std.specs.Prelude.{◌≡◌, true, ◌*◌, ◌<◌, ◌≤◌, length};
+ghost use Rattle.std.specs.Prelude.{◌≡◌, ◌*◌, ◌<◌, ◌≤◌, length, IfSome};
 ghost use Rattle.rules.specs.Layout.{row_size};
 ghost use Rattle.layout.specs.Bodies.{width_of};
 ghost use Rattle.row_check.specs.Walking.{FewIn};
@@ -15,102 +15,114 @@ use sample_stores::{CLUB, LEGS};
 
 // ---- the two parts of a walk
 
-// Whether the walk may be asked of `count` rows: the counts are within the ceilings, and the rows are there.
-fn askable(before: &[u8], rows: &[u8], count: usize) -> bool
-    ensures { result ≡ true → FewIn before.now × (row_size (width_of before.now) * count ≤ length rows.now) }
-{
-    if layout::MAX_ROWS < count {
-        return false;
-    }
-    if layout::MAX_DEFINITIONS < layout::definition_count(before) {
-        return false;
-    }
-    if layout::MAX_ATTRIBUTES < layout::attribute_count(before) {
-        return false;
-    }
-    let size = layout::row_size(layout::width_in(before));
-    layout::times(size, count) <= rows.len()
+// Rows of which the walk may be asked, with the bytes before the tree body: the counts are within the ceilings, and the
+// rows are there.
+#[derive(Clone, Copy)]
+struct Rows<'a> {
+    before: &'a [u8],
+    bytes: &'a [u8],
+    count: usize,
+    ghost within: { FewIn before.now × (count ≤ 4096) },
+    ghost there: { row_size (width_of before.now) * count ≤ length bytes.now },
 }
 
-// The first part: the state after the first `count` rows, if they may all come.
-fn walk_first(before: &[u8], rows: &[u8], count: usize) -> Option<[u8; STATE]> {
-    if !askable(before, rows, count) {
-        return None;
-    }
-    let mut state = [0; STATE];
-    let mut table: [u64; form_table::TABLE] = [0; form_table::TABLE];
-    row_check::lay_table(before, &mut table);
-    let next = layout::next_serial(before);
-    if !row_check::walk_rows(before, next, &table, &mut state, rows, count) {
-        return None;
-    }
-    Some(state)
-}
-
-// The answer from the bytes of a state on, over the `count` rows left.
-fn answer_after(before: &[u8], bytes: &[u8], rows: &[u8], count: usize) -> bool {
-    if !askable(before, rows, count) {
-        return false;
-    }
-    let mut state = [0; STATE];
-    codec::lay(bytes, &mut state);
-    if 64 < state[0] {
-        return false;
-    }
-    let next = layout::next_serial(before);
-    row_check::answer_from(before, next, &mut state, rows, count)
-}
-
-// The whole walk's answer, as the check of a store asks for it.
-fn whole_answer(before: &[u8], rows: &[u8], count: usize) -> bool {
-    if !askable(before, rows, count) {
-        return false;
-    }
-    let next = layout::next_serial(before);
-    row_check::rows_pass(before, next, rows, count)
-}
-
-// ---- every place to stop
-
-// The answer of a walk that stops after m of the `count` rows. Rows that may not all come leave no state to go on from.
-fn answer_by_parts(before: &[u8], rows: &[u8], count: usize, m: usize) -> bool
-    requires { m ≤ 4096 }
-{
-    let Some(state) = walk_first(before, rows, m) else {
-        return false;
-    };
-    let size = layout::row_size(layout::width_in(before));
-    let left = codec::after(rows, layout::times(size, m));
-    answer_after(before, &state, left, layout::minus(count, m))
-}
-
-// At how many of the places from 0 to `count` the answer is the whole walk's.
-fn same_answers(before: &[u8], rows: &[u8], count: usize, whole: bool) -> usize
-    requires { count ≤ 4096 }
-{
-    let mut same = 0;
-    for m in 0..=count {
-        if answer_by_parts(before, rows, count, m) == whole {
-            same += 1;
+impl<'a> Rows<'a> {
+    fn of(before: &'a [u8], bytes: &'a [u8], count: usize) -> Option<Rows<'a>>
+        ensures { IfSome result (λ rows. rows.count ≡ count) }
+    {
+        if layout::MAX_ROWS < count {
+            return None;
         }
-    }
-    same
-}
-
-// How many rows come before the first that may not.
-fn rows_that_come(before: &[u8], rows: &[u8], count: usize) -> usize
-    requires { count ≤ 4096 }
-{
-    for m in 0..count {
-        if walk_first(before, rows, m + 1).is_none() {
-            return m;
+        if layout::MAX_DEFINITIONS < layout::definition_count(before) {
+            return None;
         }
+        if layout::MAX_ATTRIBUTES < layout::attribute_count(before) {
+            return None;
+        }
+        let size = layout::row_size(layout::width_in(before));
+        if bytes.len() < layout::times(size, count) {
+            return None;
+        }
+        Some(Rows {
+            before,
+            bytes,
+            count,
+        })
     }
-    count
+
+    // The first part of a walk: the state after these rows, if they may all come.
+    fn state_after(self) -> Option<[u8; STATE]> {
+        let mut state = [0; STATE];
+        let mut table: [u64; form_table::TABLE] = [0; form_table::TABLE];
+        row_check::lay_table(self.before, &mut table);
+        let next = layout::next_serial(self.before);
+        if !row_check::walk_rows(
+            self.before,
+            next,
+            &table,
+            &mut state,
+            self.bytes,
+            self.count,
+        ) {
+            return None;
+        }
+        Some(state)
+    }
+
+    // The answer from the bytes of a state on, over these rows.
+    fn answer_after(self, bytes: &[u8]) -> bool {
+        let mut state = [0; STATE];
+        codec::lay(bytes, &mut state);
+        if 64 < state[0] {
+            return false;
+        }
+        let next = layout::next_serial(self.before);
+        row_check::answer_from(self.before, next, &mut state, self.bytes, self.count)
+    }
+
+    // The whole walk's answer, as the check of a store asks for it.
+    fn answer(self) -> bool {
+        let next = layout::next_serial(self.before);
+        row_check::rows_pass(self.before, next, self.bytes, self.count)
+    }
+
+    // ---- every place to stop
+
+    // The state after the first m rows.
+    fn state_at(self, m: usize) -> Option<[u8; STATE]> {
+        Rows::of(self.before, self.bytes, m)?.state_after()
+    }
+
+    // The answer of a walk that stops after m rows. Rows that may not all come leave no state to go on from.
+    fn answer_by_parts(self, m: usize) -> Option<bool>
+        requires { m ≤ self.count }
+    {
+        let state = self.state_at(m)?;
+        let size = layout::row_size(layout::width_in(self.before));
+        let left = codec::after(self.bytes, layout::times(size, m));
+        let rest = Rows::of(self.before, left, self.count - m)?;
+        Some(rest.answer_after(&state))
+    }
+
+    // At how many of the places the answer is the whole walk's.
+    fn same_answers(self) -> usize {
+        let whole = self.answer();
+        (0..=self.count)
+            .filter(|m| self.answer_by_parts(*m).unwrap_or(false) == whole)
+            .count()
+    }
+
+    // How many rows come before the first that may not.
+    fn count_that_come(self) -> usize {
+        (0..self.count)
+            .find(|m| self.state_at(*m + 1).is_none())
+            .unwrap_or(self.count)
+    }
 }
 
 // ---- a line for each case
 
+// As in `play`: this program stands on the walk alone, and would stand on all calls with `play`.
 fn tell(what: &[u8]) {
     io::write_all(1, what);
 }
@@ -120,62 +132,33 @@ fn tell_number(what: &[u8], number: usize) {
     io::print_decimal(1, number as u64);
 }
 
-fn tell_answer(answer: bool) {
-    if answer {
-        tell(b"; the walk says yes");
-    } else {
-        tell(b"; the walk says no");
-    }
-}
-
-fn tell_walks(name: &[u8], before: &[u8], rows: &[u8], count: usize)
-    requires { count ≤ 4096 }
-{
-    let whole = whole_answer(before, rows, count);
+fn tell_rows(name: &[u8], rows: Rows<'_>) {
     tell(name);
-    tell_number(b": ", count);
-    tell_number(
-        b" rows, of which the first ",
-        rows_that_come(before, rows, count),
-    );
-    tell(b" may come");
-    tell_answer(whole);
-    tell_number(b"; resumed after 0 to ", count);
-    tell_number(b" rows: ", same_answers(before, rows, count, whole));
-    tell_number(b" of ", count + 1);
+    tell_number(b": ", rows.count);
+    tell_number(b" rows, of which the first ", rows.count_that_come());
+    tell(b" may come; the walk says ");
+    tell(if rows.answer() { b"yes" } else { b"no" });
+    tell_number(b"; resumed after 0 to ", rows.count);
+    tell_number(b" rows: ", rows.same_answers());
+    tell_number(b" of ", rows.count + 1);
     tell(b" the same\n");
 }
 
-// The walks over the rows of a store without the last `fewer`. The rows and the bytes before them are cut apart here.
+// The rows of a store without the last `fewer`. The rows and the bytes before them are cut apart here.
 fn tell_case(name: &[u8], store: &[u8], fewer: usize) {
     let s = layout::shape_of(store);
-    let count = layout::minus(s.rows, fewer);
-    if layout::MAX_ROWS < count {
-        return;
-    }
     let at = layout::through_attributes(s.width, s.definitions, s.particles, s.attributes);
     let before = codec::first(store, at);
-    let rows = codec::first(
-        codec::after(store, at),
-        layout::times(layout::row_size(s.width), count),
-    );
-    tell_walks(name, before, rows, count);
+    let bytes = codec::after(store, at);
+    if let Some(rows) = Rows::of(before, bytes, layout::minus(s.rows, fewer)) {
+        tell_rows(name, rows);
+    }
 }
 
-// The store that clubform leaves, with one byte changed.
-fn tell_club(name: &[u8], at: usize, value: u8)
-    requires { at < 508 }
+// A store with one byte changed.
+fn tell_fault<const N: usize>(name: &[u8], mut store: [u8; N], at: usize, value: u8)
+    requires { at < N }
 {
-    let mut store = CLUB;
-    store[at] = value;
-    tell_case(name, &store, 0);
-}
-
-// The store with groups and attributes, with one byte changed.
-fn tell_legs(name: &[u8], at: usize, value: u8)
-    requires { at < 644 }
-{
-    let mut store = LEGS;
     store[at] = value;
     tell_case(name, &store, 0);
 }
@@ -190,25 +173,25 @@ fn whole_stores() {
 }
 
 fn club_faults() {
-    tell_club(b"a first row that is no root", 157, 1);
-    tell_club(b"a definition past the table", 158, 7);
-    tell_club(b"serial 0", 160, 0);
-    tell_club(b"a serial equal to the next", 160, 9);
-    tell_club(b"an element with a value", 164, 1);
-    tell_club(b"a child that the model does not have there", 334, 3);
+    tell_fault(b"a first row that is no root", CLUB, 157, 1);
+    tell_fault(b"a definition past the table", CLUB, 158, 7);
+    tell_fault(b"serial 0", CLUB, 160, 0);
+    tell_fault(b"a serial equal to the next", CLUB, 160, 9);
+    tell_fault(b"an element with a value", CLUB, 164, 1);
+    tell_fault(b"a child that the model does not have there", CLUB, 334, 3);
 }
 
 fn legs_faults() {
-    tell_legs(b"an attribute row twice", 382, 0);
-    tell_legs(b"a FIXED value that differs", 390, 102);
-    tell_legs(b"a REQUIRED row that is not there", 336, 3);
-    tell_legs(b"attribute rows out of order", 338, 1);
-    tell_legs(b"a row two deeper than the one before", 425, 3);
-    tell_legs(b"an element below EMPTY", 469, 2);
-    tell_legs(b"a text in COMPLEX", 601, 1);
-    tell_legs(b"two texts", 556, 3);
-    tell_legs(b"PCDATA without a text", 600, 2);
-    tell_legs(b"children in another order", 470, 3);
+    tell_fault(b"an attribute row twice", LEGS, 382, 0);
+    tell_fault(b"a FIXED value that differs", LEGS, 390, 102);
+    tell_fault(b"a REQUIRED row that is not there", LEGS, 336, 3);
+    tell_fault(b"attribute rows out of order", LEGS, 338, 1);
+    tell_fault(b"a row two deeper than the one before", LEGS, 425, 3);
+    tell_fault(b"an element below EMPTY", LEGS, 469, 2);
+    tell_fault(b"a text in COMPLEX", LEGS, 601, 1);
+    tell_fault(b"two texts", LEGS, 556, 3);
+    tell_fault(b"PCDATA without a text", LEGS, 600, 2);
+    tell_fault(b"children in another order", LEGS, 470, 3);
 }
 
 // The state at its ceiling: 64 elements stand open.

@@ -3,7 +3,13 @@
 
 ghost use Rattle.std.specs.Prelude.{◌<◌};
 
-// The store that clubform leaves.
+/// The fresh store, 40 bytes: version 1, next serial 1, and four empty bodies.
+pub const FRESH: [u8; 40] = [
+    1, 0, 0, 0, 1, 0, 0, 0, 40, 0, 0, 0, 0, 0, 0, 0, 40, 0, 0, 0, 0, 0, 0, 0, 40, 0, 0, 0, 0, 0, 0,
+    0, 40, 0, 0, 0, 0, 0, 0, 0,
+];
+
+/// The store that clubform leaves.
 pub const CLUB: [u8; 508] = [
     1, 0, 0, 0, 9, 0, 0, 0, 40, 0, 0, 0, 5, 0, 0, 0, 140, 0, 0, 0, 4, 0, 0, 0, 156, 0, 0, 0, 0, 0,
     0, 0, 156, 0, 0, 0, 8, 0, 0, 0, 4, 114, 97, 99, 101, 0, 0, 0, 0, 0, 0, 0, 0, 0, 0, 0, 0, 2, 1,
@@ -24,7 +30,7 @@ pub const CLUB: [u8; 508] = [
     0, 0, 0, 0, 0, 0, 0, 0, 0, 0, 0, 0, 0, 0, 0, 0, 0, 0, 0,
 ];
 
-// r ((a|b)+,c?) with a REQUIRED and a FIXED attribute, c with an IMPLIED one; one document that has them all.
+/// r ((a|b)+,c?) with a REQUIRED and a FIXED attribute, c with an IMPLIED one; one document that has them all.
 pub const LEGS: [u8; 644] = [
     1, 0, 0, 0, 9, 0, 0, 0, 40, 0, 0, 0, 4, 0, 0, 0, 120, 0, 0, 0, 4, 0, 0, 0, 136, 0, 0, 0, 3, 0,
     0, 0, 36, 1, 0, 0, 8, 0, 0, 0, 1, 114, 0, 0, 0, 0, 0, 0, 0, 0, 0, 0, 0, 0, 0, 0, 0, 2, 4, 0, 1,
@@ -59,6 +65,9 @@ pub const DEEPEST: usize = 4388;
 const PARTICLES: usize = 1320;
 
 const ROWS: usize = 1572;
+
+// Written byte by byte, and not by the writers of the library, whose stores are what programs try with it. Each part is
+// lent the array, whose length no call has to require.
 
 // Version 1, next serial 65, and the offsets and counts: 64 definitions, 63 particles, no attribute, 64 rows.
 fn lay_header(store: &mut [u8; DEEPEST]) {

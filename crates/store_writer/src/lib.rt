@@ -1,7 +1,7 @@
 //! The store that a change leaves, written whole where it keeps within the ceilings, the serials and the room.
 #![tactic(auto)]
 
-ghost use Rattle.std.specs.Prelude.{◌≡◌, true, ◌++◌, ◌+◌, length};
+ghost use Rattle.std.specs.Prelude.{◌≡◌, ◌≢◌, true, ◌++◌, ◌+◌, length, MatchOption};
 ghost use Rattle.rules.specs.Layout.{flat_bytes};
 ghost use Rattle.rules.specs.Decode.{number_at};
 ghost use Rattle.rules.specs.Passing.{passes};
@@ -22,12 +22,26 @@ ghost use Rattle.layout.specs.Fields.{next_at};
 use row_walk::Plan;
 use rules::Refusal;
 
-/// 0 and the length of what was written, or the number of a refusal and 0: what the public calls answer, to C too.
+/// 0 and the length of what was written, or the number of a refusal and 0: what the public calls answer. Numbers, since
+/// C gets them from those calls (include/formstore.h).
 #[repr(C)]
-#[derive(Clone, Copy)]
+#[derive(Clone, Copy, PartialEq, Eq)]
 pub struct Answer {
     pub number: u32,
     pub length: usize,
+}
+
+impl Answer {
+    /// The length of what was written, if the call was accepted.
+    pub fn accepted(self) -> Option<usize>
+        ensures { MatchOption result (self.number ≢ 0) (λ length. (self.number ≡ 0) × (length ≡ self.length)) }
+    {
+        if self.number == 0 {
+            Some(self.length)
+        } else {
+            None
+        }
+    }
 }
 
 impl From<Result<usize, Refusal>> for Answer {

@@ -2,6 +2,7 @@
 #![tactic(auto)]
 
 mod article;
+mod calls;
 mod examples;
 
 fn main() {

@@ -1,6 +1,5 @@
 -- `look_up_calls::check` meets its contract: the two cases of what `passes` answers are the two clauses of
 -- `check_answer` (`check_yes`, `check_no` of Laws).
-use borrow.Author.Rules.{rules}
 use Rattle.look_up_calls.proofs.Laws.{check_yes, check_no}
 use Rattle.look_up_calls.proofs.check.Goals as goal
 

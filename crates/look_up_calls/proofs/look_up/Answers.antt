@@ -2,7 +2,6 @@
 -- part and 1 (`hands_bad` of Laws), a good one what `value_of` gives (`hands_good`).
 use mathlib.Core.Path.{ap}
 use mathlib.Core.Bool.{not}
-use borrow.Author.Rules.{rules}
 use Rattle.look_up_calls.proofs.Laws.{hands_bad, hands_good}
 use Rattle.look_up_calls.proofs.look_up.Goals as goal
 

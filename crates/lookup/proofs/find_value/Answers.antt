@@ -7,7 +7,7 @@ use Prim.Native.Nat.{ℕ}
 use native.Mathlib.Omega.{arith}
 use Rattle.rules.specs.Decode.{read_row}
 use Rattle.rules.specs.LookUp.{ValueFound}
-use Rattle.lookup.specs.Finding.{Looks}
+use Rattle.lookup.specs.Finding.{LooksBy}
 use Rattle.lookup.proofs.Laws.{seek_start, seek_past, seek_hit, seek_none, row_of}
 use Rattle.lookup.proofs.find_value.Goals as goal
 
@@ -26,7 +26,7 @@ returns-then-row_serial-serial c =
     let a = c.args in
     let row = row_of c.loop-i.i c.loop-i.invariant.1 c.row_at.ensures in
     let e = c.row_serial.ensures ∙ ap (λ (b : List ℕ). (read_row b).row.serial) row in
-    subst (λ (f : ValueFound). Looks f c.found_at.result.number c.found_at.result.start c.found_at.result.length)
+    subst (λ (f : ValueFound). LooksBy f c.found_at.result)
     (seek_hit a.store.now a.serial _ c.loop-i.i c.loop-i.invariant.0 (omega arith) (sym e ∙ c.if-row_serial-serial.true))
     c.found_at.ensures
 

@@ -2,13 +2,13 @@
 ghost use Rattle.std.specs.Prelude.{◌≡◌, length};
 ghost use Rattle.clubform.specs.History.{stage, BufferHolds};
 
-use rules::Quantifier;
+use rules::{Kind, Quantifier};
 use sample_stores::FRESH;
 use store_writer::Answer;
 
-const PCDATA: u32 = 1;
+const PCDATA: u32 = Kind::Pcdata as u32;
 
-const COMPLEX: u32 = 2;
+const COMPLEX: u32 = Kind::Complex as u32;
 
 const NONE: u32 = Quantifier::None as u32;
 

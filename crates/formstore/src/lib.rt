@@ -9,15 +9,13 @@ ghost use Rattle.rules.specs.Change.{create_definition, destroy_definition, inse
 ghost use Rattle.rules.specs.Change.{change_group_quantifier, add_attribute, destroy_attribute, add_document, add_element, destroy_element, set_attribute};
 ghost use Rattle.rules.specs.Change.{destroy_attribute_row, set_text};
 ghost use Rattle.rules.specs.Outcome.{Promise, Answers};
-ghost use Rattle.rules.specs.Given.{number_given};
 ghost use Rattle.rules.specs.Layout.{base_version};
 ghost use Rattle.rules.specs.Print.{print_outcome};
 ghost use Rattle.reading_rules.specs.Reading.{ReadPromise};
-ghost use Rattle.lookup.specs.Finding.{Hands, part_given};
+ghost use Rattle.lookup.specs.Finding.{Hands};
 ghost use Rattle.look_up_calls.specs.Calls.{check_answer};
 
 pub use look_up_calls::Found;
-use rules::Refusal;
 pub use store_writer::Answer;
 
 /// 0 if the store passes the check, 1 if it does not.
@@ -27,12 +25,21 @@ pub fn check(store: &[u8]) -> u32
     look_up_calls::check(store)
 }
 
-/// The part of the store that is the value of the attribute or text row with a serial. On a bad store the refusal is 1,
-/// on any other serial 7.
-pub fn look_up(store: &[u8], serial: u32) -> Result<&[u8], Refusal>
-    ensures { Hands (look_up store.now serial) store.now (part_given result) (number_given result) }
+/// The part of the store that is the value of the attribute or text row with a serial, and 0; on a bad store 1, on any
+/// other serial 7, with an empty part.
+pub fn look_up<'a>(store: &'a [u8], serial: u32, number: &mut u32) -> &'a [u8]
+    ensures { Hands (look_up store.now serial) store.now result.now number.new }
 {
-    look_up_calls::look_up(store, serial)
+    match look_up_calls::look_up(store, serial) {
+        Ok(value) => {
+            *number = 0;
+            value
+        }
+        Err(refusal) => {
+            *number = u32::from(refusal);
+            &store[..0]
+        }
+    }
 }
 
 /// Prints the store.

@@ -79,7 +79,7 @@ pub struct Head {
     pub depth: usize,
     pub sort: u8,
     pub index: usize,
-    pub serial: u32,
+    pub serial: usize,
 }
 
 impl Head {
@@ -103,7 +103,7 @@ pub fn matches(w: Which, h: Head) -> bool
         Which::Ground => false,
         Which::Elements(i) => h.is(RowSort::Element) & (h.index == i),
         Which::Attributes(j) => h.is(RowSort::Attribute) & (h.index == j),
-        Which::Serial(k) => h.is(RowSort::Element) & (h.serial == k),
+        Which::Serial(k) => h.is(RowSort::Element) & (h.serial == k as usize),
     }
 }
 
@@ -113,7 +113,7 @@ pub fn is_later(plan: &Plan, h: Head) -> bool
 {
     match plan.later {
         Later::Never => false,
-        Later::Row(k) => h.serial == k,
+        Later::Row(k) => h.serial == k as usize,
         Later::Past(j) => !(h.is(RowSort::Attribute) & (h.index < j)),
         Later::Unmarked => h.is(RowSort::Element) & !(codec::byte(&plan.marks, h.index) == 1),
     }
@@ -154,7 +154,7 @@ pub fn moved_index(plan: &Plan, h: Head) -> usize
 pub fn is_valued(plan: &Plan, h: Head) -> bool
     ensures { result ≡ is_set plan.now.set h.serial }
 {
-    plan.set == Some(h.serial)
+    plan.set.is_some_and(|k| h.serial == k as usize)
 }
 
 // ---- what a row meets

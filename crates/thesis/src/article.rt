@@ -2,13 +2,7 @@
 //! REQUIRED; related is a LIST of one, starred, as in the thesis.
 use super::calls;
 use play::Play;
-use rules::{AttributeSort, Quantifier};
-
-pub const EMPTY: u32 = 0;
-
-pub const PCDATA: u32 = 1;
-
-pub const COMPLEX: u32 = 2;
+use rules::{AttributeSort, Kind, Quantifier};
 
 // The definitions, by index; `middle` is created in the examples.
 pub const ARTICLE: u32 = 0;
@@ -33,15 +27,15 @@ pub const MIDDLE: u32 = 9;
 
 fn definitions(play: Play) -> Play {
     play::tell(b"create the nine definitions:");
-    let play = calls::create_definition(play, b"article", COMPLEX);
-    let play = calls::create_definition(play, b"title", PCDATA);
-    let play = calls::create_definition(play, b"author", COMPLEX);
-    let play = calls::create_definition(play, b"name", COMPLEX);
-    let play = calls::create_definition(play, b"first", PCDATA);
-    let play = calls::create_definition(play, b"last", PCDATA);
-    let play = calls::create_definition(play, b"related", COMPLEX);
-    let play = calls::create_definition(play, b"monograph", COMPLEX);
-    calls::create_definition(play, b"editor", EMPTY)
+    let play = calls::create_definition(play, b"article", Kind::Complex);
+    let play = calls::create_definition(play, b"title", Kind::Pcdata);
+    let play = calls::create_definition(play, b"author", Kind::Complex);
+    let play = calls::create_definition(play, b"name", Kind::Complex);
+    let play = calls::create_definition(play, b"first", Kind::Pcdata);
+    let play = calls::create_definition(play, b"last", Kind::Pcdata);
+    let play = calls::create_definition(play, b"related", Kind::Complex);
+    let play = calls::create_definition(play, b"monograph", Kind::Complex);
+    calls::create_definition(play, b"editor", Kind::Empty)
 }
 
 // The first three are article's, then one of author's and two of name's.

@@ -1,9 +1,10 @@
 //! The calls that the article and the examples make, by the names of their codes.
 use play::Play;
-use rules::{AttributeSort, GroupKind, Quantifier};
+use rules::{AttributeSort, GroupKind, Kind, Quantifier};
 
-pub fn create_definition(play: Play, name: &[u8], kind: u32) -> Play {
-    play.after(|store, out| formstore::create_definition(store, name, kind, out))
+pub fn create_definition(play: Play, name: &[u8], kind: Kind) -> Play {
+    let code = u32::from(u8::from(kind));
+    play.after(|store, out| formstore::create_definition(store, name, code, out))
 }
 
 pub fn insert_element(

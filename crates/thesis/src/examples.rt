@@ -1,11 +1,11 @@
 //! The fourteen examples, each with its number and the text after it. Each function starts from the article.
 use super::{article, calls};
 use play::Play;
-use rules::{AttributeSort, Quantifier};
+use rules::{AttributeSort, Kind, Quantifier};
 
 pub fn one_and_two(start: Play) {
     play::tell(b"\n1. create middle EMPTY:");
-    let made = calls::create_definition(start, b"middle", article::EMPTY);
+    let made = calls::create_definition(start, b"middle", Kind::Empty);
     made.show_after();
     play::tell(b"\n2. destroy it:");
     let gone = made.after(|store, out| formstore::destroy_definition(store, article::MIDDLE, out));
@@ -14,7 +14,7 @@ pub fn one_and_two(start: Play) {
 }
 
 fn with_middle(start: Play) -> Play {
-    let made = calls::create_definition(start, b"middle", article::PCDATA);
+    let made = calls::create_definition(start, b"middle", Kind::Pcdata);
     calls::insert_element(
         made,
         article::NAME,

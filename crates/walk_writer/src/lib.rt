@@ -38,7 +38,7 @@ pub fn read_head(row: &[u8]) -> Head
         depth: layout::row_depth(row) as usize,
         sort: layout::row_sort(row),
         index: layout::row_index(row) as usize,
-        serial: layout::row_serial(row),
+        serial: layout::row_serial(row) as usize,
     }
 }
 

@@ -11,10 +11,10 @@ fn put_escaped_byte(x: u8, out: &mut [u8], at: usize) -> usize
     ensures { Laid (escape_byte x) out.old at result out.new }
 {
     match x {
-        38 => codec::put(b"&amp;", out, at),
-        60 => codec::put(b"&lt;", out, at),
-        62 => codec::put(b"&gt;", out, at),
-        34 => codec::put(b"&quot;", out, at),
+        b'&' => codec::put(b"&amp;", out, at),
+        b'<' => codec::put(b"&lt;", out, at),
+        b'>' => codec::put(b"&gt;", out, at),
+        b'"' => codec::put(b"&quot;", out, at),
         _ => codec::put_u8(out, at, x),
     }
 }
@@ -24,7 +24,7 @@ fn is_plain(value: &[u8]) -> bool
     ensures { result ≡ true → escape value.now ≡ value.now }
 {
     for x in value {
-        if (*x == 38) | (*x == 60) | (*x == 62) | (*x == 34) {
+        if (*x == b'&') | (*x == b'<') | (*x == b'>') | (*x == b'"') {
             return false;
         }
     }

@@ -1,5 +1,5 @@
 -- A form that is lent, and what a byte string's header and bodies say of it.
-use Rattle.std.specs.Prelude.{ℕ, ◌<◌, ◌≡◌}
+use Rattle.std.specs.Prelude.{◌<◌, ◌≡◌}
 use Rattle.rules.specs.Bytes.{Bytes}
 use Rattle.rules.specs.Decode.{version_in, definition_count, particle_count, attribute_count}
 use Rattle.layout.specs.declared.Form.{Form}

@@ -4,3 +4,4 @@ pub mod RowBytes
 pub mod RecordBytes
 pub mod Header
 pub mod Form
+pub mod Rows

@@ -12,7 +12,11 @@ ghost use Rattle.layout.specs.Bodies.{Width, window_of, Product, record_at, Numb
 ghost use Rattle.layout.specs.Bodies.{definition_body, particle_body, attribute_body, row_body, definitions_in, particles_in, attributes_in, tree_rows_in};
 ghost use Rattle.layout.specs.Bodies.{attribute_bytes_in, ValueAt};
 ghost use Rattle.layout.specs.Form.{FormOf};
+ghost use Rattle.layout.specs.Rows.{RowsIn};
 
+pub mod rows;
+
+use rows::Rows;
 use rules::RowSort;
 
 pub const HEADER_SIZE: usize = 40;
@@ -591,6 +595,18 @@ pub fn form_of(store: &[u8]) -> Form<'_>
         definitions: definition_body(store, s),
         particles: particle_body(store, s),
         attributes: attribute_body(store, s),
+    }
+}
+
+/// The tree rows of a store as they are lent, by its own header.
+pub fn rows_in(store: &[u8]) -> Rows<'_>
+    ensures { RowsIn store.now result }
+{
+    let s = shape_of(store);
+    Rows {
+        width: s.width,
+        bytes: row_body(store, s),
+        count: s.rows,
     }
 }
 

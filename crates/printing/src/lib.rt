@@ -8,6 +8,8 @@ ghost use Rattle.printing.specs.Texts.{Within, Ends, declarations_text, form_tex
 ghost use Rattle.printing_parts.specs.Parts.{definition_part, names_of, definitions_from, particles_from, attributes_from};
 ghost use Rattle.declaration_printing.specs.Declarations.{LaidWithin};
 
+use layout::rows::Rows;
+
 // The number past n particles from number `from` on, or past the last particle.
 fn model_end(store: &[u8], from: usize, n: usize) -> usize
     requires { (from < 1099511627776) × (n < 4294967296) }
@@ -57,9 +59,11 @@ pub fn print_store(store: &[u8], out: &mut [u8]) -> usize
     requires { Within store.now }
     ensures { Laid (text_of store.now) out.old 0 result out.new }
 {
-    let w = layout::width_in(store);
-    let rows = lookup::from_rows(store);
-    let count = layout::row_count(store);
+    let rows = Rows {
+        width: layout::width_in(store),
+        bytes: lookup::from_rows(store),
+        count: layout::row_count(store),
+    };
     let formed = put_form(store, out, 0);
-    document_printing::put_documents(w, store, rows, count, out, formed)
+    document_printing::put_documents(store, rows, out, formed)
 }

@@ -11,6 +11,7 @@ use lib.Dec.{ltb, eqb}
 use lib.ListN.{length, get_or, set, length-set, replicate, length-replicate}
 use lib.Seq.{get_or-set_same, get_or-set_other}
 use borrow.Author.Tests.{ltb-true, ltb-false, eqb-true, eqb-false}
+use Rattle.std.specs.Prelude.{None, Some}
 use Rattle.rules.specs.Bytes.{Bytes}
 use Rattle.codec.proofs.Numbers.{zeros_read}
 use Rattle.serial_check.specs.Serials.{serial_at_row, Apart}
@@ -73,8 +74,8 @@ seek_row {w} {rows} {below} {from} {s} {h} {q} l k = let e : h ≡ suc (h - 1) =
 pub seek_starts : (w : ℕ) (rows : Bytes) (below : List ℕ) (from s : ℕ) → 0 < from → from ≤ 4096 → Seek w rows below from s (suc (from - 1)) (s / 4096)
 seek_starts w rows below from s l m = seek_row l (record { on = λ i o. o; comes = λ p o. o; rest = λ i o e. o; low = m })
 
-pub seek_meets : {w : ℕ} {rows : Bytes} {below : List ℕ} {from s j q : ℕ} → Seek w rows below from s (suc j) q → serial_at_row w rows j ≡ s → Sought w rows below from s 16384
-seek_meets {j = j} k e = record { met = λ l. (j, k.on j at_once, e); free = λ l. absurd (omega arith) }
+pub seek_meets : {w : ℕ} {rows : Bytes} {below : List ℕ} {from s j q : ℕ} → Seek w rows below from s (suc j) q → serial_at_row w rows j ≡ s → Sought w rows below from s None
+seek_meets {j = j} k e = record { is = (j, k.on j at_once, e) }
 
 module _ {w : ℕ} {rows : Bytes} {below : List ℕ} {from s j q : ℕ} (k : Seek w rows below from s (suc j) q) (n : serial_at_row w rows j ≡ s → ⊥) where
   -- a row that has the serial and was not passed is met further on
@@ -85,11 +86,10 @@ module _ {w : ℕ} {rows : Bytes} {below : List ℕ} {from s j q : ℕ} (k : See
       by (inl g) = absurd (n (ap (serial_at_row w rows) (sym g) ∙ e))
       by (inr o) = o
 
-  pub seek_ends : j < 4096 → get_or below (place_below j q) 0 ≡ 0 → Sought w rows below from s (place_below j q)
+  pub seek_ends : j < 4096 → get_or below (place_below j q) 0 ≡ 0 → Sought w rows below from s (Some (place_below j q))
   seek_ends l z =
       record {
-        met = λ g. absurd (omega arith);
-        free = λ g. record { comes = k.comes (place_below j q) (last refl); empty = z; none = λ i m e. met_none (further i m e) z };
+        is = (omega arith, record { comes = k.comes (place_below j q) (last refl); empty = z; none = λ i m e. met_none (further i m e) z });
       }
 
   pub seek_on : Rising below 4096 → (get_or below (place_below j q) 0 ≡ 0 → ⊥) → Seek w rows below from s (suc (get_or below (place_below j q) 0 - 1)) (q / 4)
@@ -170,10 +170,10 @@ module _ {w : ℕ} {rows : Bytes} {heads below : List ℕ} {k : ℕ} (t : Trees 
           (t.covers j h)
 
   -- the walk for s comes to an empty place
-  pub put_below : {p : ℕ} → Sought w rows below (get_or heads (s % 4096) 0) s p → p < 16384 → Put w rows heads (set below p (k + 1)) k true
-  put_below {p} f l =
-      let g = f.free l in
-      let b : p < length below = omega (arith, t.long) in
+  pub put_below : {p : ℕ} → Sought w rows below (get_or heads (s % 4096) 0) s (Some p) → Put w rows heads (set below p (k + 1)) k true
+  put_below {p} f =
+      let g = f.is.1 in
+      let b : p < length below = omega (arith, t.long, f.is.0) in
       rw add-one
       (record {
         yes = λ q.
@@ -189,9 +189,9 @@ module _ {w : ℕ} {rows : Bytes} {heads below : List ℕ} {k : ℕ} (t : Trees 
       })
 
   -- the walk for s meets a row with that serial
-  pub put_twice : {p : ℕ} → Sought w rows below (get_or heads (s % 4096) 0) s p → 16384 ≤ p → Put w rows heads below k false
-  put_twice {p} f l =
-      let (j, m, e) = f.met l in
+  pub put_twice : Sought w rows below (get_or heads (s % 4096) 0) s None → Put w rows heads below k false
+  put_twice f =
+      let (j, m, e) = f.is in
       record {
         yes = λ q. absurd (false≢true q);
         no = λ q a. a.apart j k (met_low k t.rising (t.low (s % 4096)) m) (omega arith) (e ∙ es);

@@ -4,6 +4,7 @@
 -- row's number, counted from 0, and 1; or 0 for none.
 -- A walk goes by the bits of the serial above the remainder, two at a time, the lowest first: from row j to that of its
 -- places which the two bits number.
+use Rattle.std.specs.Prelude.{Option, MatchOption}
 use Rattle.std.specs.Prelude.{ℕ, suc, ◌+◌, ◌*◌, ◌/◌, ◌%◌, ◌<◌, ◌≤◌, ◌≡◌, Bool, true, false, List, length, get_or}
 use Rattle.rules.specs.Bytes.{Bytes}
 use Rattle.serial_check.specs.Serials.{serial_at_row, Apart}
@@ -34,11 +35,10 @@ pub record Free (w : ℕ) (rows : Bytes) (below : List ℕ) (h s p : ℕ) : Type
   pub empty : get_or below p 0 ≡ 0
   pub none : (j : ℕ) → Met below j h (s / 4096) → serial_at_row w rows j ≡ s → ⊥
 
--- r: the place to which the walk from h for the serial s comes; 16384,
--- which is none, where it meets a row with that serial
-pub record Sought (w : ℕ) (rows : Bytes) (below : List ℕ) (h s r : ℕ) : Type 0 where
-  pub met : 16384 ≤ r → (j : ℕ) × Met below j h (s / 4096) × (serial_at_row w rows j ≡ s)
-  pub free : r < 16384 → Free w rows below h s r
+-- r: the place to which the walk from h for the serial s comes; none
+-- where it meets a row with that serial
+pub record Sought (w : ℕ) (rows : Bytes) (below : List ℕ) (h s : ℕ) (r : Option ℕ) : Type 0 where
+  pub is : MatchOption r ((j : ℕ) × Met below j h (s / 4096) × (serial_at_row w rows j ≡ s)) (λ p. (p < 16384) × Free w rows below h s p)
 
 -- ---- the first k rows
 -- no two are alike, and each is met by the walk for its own serial

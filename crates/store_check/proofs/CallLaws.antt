@@ -117,8 +117,8 @@ module _ {bs : Bytes} {s : Shape} (h : Headed bs) (x : ShapeOf bs s) where
       q ∙ (λ i. verdict (before_with ((n ∙ ap (λ (t : Bytes). number_at next_at 4 t) e) i) (e i)) (rows_counted x i) (v i))
 
   -- ---- serials
-  pub serials_asked : Width s.width × (s.rows ≤ 4096)
-  serials_asked = (x.sized.width, omega (arith, (header h).few_rows, rows_counted x))
+  pub serials_asked : s.rows ≤ 4096
+  serials_asked = omega (arith, (header h).few_rows, rows_counted x)
 
   pub serials_in_lem : {rows : Bytes} {r : Bool} → rows ≡ tree_rows_in bs → r ≡ distinct numbers (serials_of s.width s.rows rows) → r ≡ serials_differ bs
   unfolding serials_differ

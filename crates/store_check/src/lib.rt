@@ -11,6 +11,7 @@ ghost use Rattle.row_check.specs.Walking.{bytes_before};
 ghost use Rattle.store_check.specs.Check.{FormPasses, FormIn, walk_answer, serials_differ};
 
 use layout::Shape;
+use layout::rows::Rows;
 
 // ---- the form
 
@@ -84,8 +85,12 @@ fn serials_pass(store: &[u8], s: Shape) -> bool
     requires { (header_fits (width_of store.now) store.now ≡ true) × ShapeOf store.now s }
     ensures { result ≡ serials_differ store.now }
 {
-    let rows = layout::row_body(store, s);
-    serial_check::serials_differ(s.width, rows, s.rows)
+    let rows = Rows {
+        width: s.width,
+        bytes: layout::row_body(store, s),
+        count: s.rows,
+    };
+    serial_check::serials_differ(rows)
 }
 
 // ---- all

@@ -25,12 +25,11 @@ loop-i-init c = walk_start _ _ _ _ true _
 pub put_document-line-requires : goal.put_document-line-requires
 put_document-line-requires c = (
   record {
-    few = omega (arith, c.requires.0.room, c.requires.0.few);
+    few = omega (arith, c.requires.room, c.requires.few);
     deep = omega arith;
-    room = omega (arith, c.requires.0.room, c.requires.0.few, c.loop-i.invariant.small);
+    room = omega (arith, c.requires.room, c.requires.few, c.loop-i.invariant.small);
   },
   omega arith,
-  c.requires.1,
 )
 
 pub loop-i-smaller-then-row_depth-eq0 : goal.loop-i-smaller-then-row_depth-eq0
@@ -40,23 +39,23 @@ loop-i-smaller-then-row_depth-eq0 c =
 pub loop-i-preserved-then-row_depth-eq0 : goal.loop-i-preserved-then-row_depth-eq0
 loop-i-preserved-then-row_depth-eq0 c =
     let a = c.args in
-    let d : c.row_depth.result ≡ (read_row (record_at (row_size a.w) c.loop-i.i a.rows.now)).depth =
-    c.row_depth.ensures ∙ ap (λ (b : List ℕ). (read_row b).depth) c.row_at.ensures in
-    walk_here c.loop-i.invariant (read_row (record_at (row_size a.w) c.loop-i.i a.rows.now)) true _
-    (row_step_lem a.w a.rows.now a.count c.loop-i.i (omega arith)) (sym d ∙ c.if-row_depth-eq0.true) (omega arith)
-    (λ t. documents_step a.store.now (read_row (record_at (row_size a.w) c.loop-i.i a.rows.now)).row
-    (build (rows_from a.w a.rows.now a.count (c.loop-i.i + 1)) 1) t)
+    let d : c.row_depth.result ≡ (read_row (record_at (row_size a.rows.width) c.loop-i.i a.rows.bytes.now)).depth =
+    c.row_depth.ensures ∙ ap (λ (b : List ℕ). (read_row b).depth) c.row.ensures in
+    walk_here c.loop-i.invariant (read_row (record_at (row_size a.rows.width) c.loop-i.i a.rows.bytes.now)) true _
+    (row_step_lem a.rows.width a.rows.bytes.now a.rows.count c.loop-i.i (omega arith)) (sym d ∙ c.if-row_depth-eq0.true) (omega arith)
+    (λ t. documents_step a.store.now (read_row (record_at (row_size a.rows.width) c.loop-i.i a.rows.bytes.now)).row
+    (build (rows_from a.rows.width a.rows.bytes.now a.rows.count (c.loop-i.i + 1)) 1) t)
     c.put_document-line.ensures
 
 pub loop-i-preserved : goal.loop-i-preserved
 loop-i-preserved c =
     let a = c.args in
-    let d : c.row_depth.result ≡ (read_row (record_at (row_size a.w) c.loop-i.i a.rows.now)).depth =
-    c.row_depth.ensures ∙ ap (λ (b : List ℕ). (read_row b).depth) c.row_at.ensures in
-    walk_deeper c.loop-i.invariant (read_row (record_at (row_size a.w) c.loop-i.i a.rows.now))
-    (row_step_lem a.w a.rows.now a.count c.loop-i.i (omega arith)) (omega (arith, c.if-row_depth-eq0.false))
+    let d : c.row_depth.result ≡ (read_row (record_at (row_size a.rows.width) c.loop-i.i a.rows.bytes.now)).depth =
+    c.row_depth.ensures ∙ ap (λ (b : List ℕ). (read_row b).depth) c.row.ensures in
+    walk_deeper c.loop-i.invariant (read_row (record_at (row_size a.rows.width) c.loop-i.i a.rows.bytes.now))
+    (row_step_lem a.rows.width a.rows.bytes.now a.rows.count c.loop-i.i (omega arith)) (omega (arith, c.if-row_depth-eq0.false))
 
 pub returns : goal.returns
 returns c =
     let a = c.args in
-    walk_all c.loop-i.invariant (from_none read_row (row_size a.w) _ a.count c.loop-i.i (omega arith)) (documents_bare (names_of a.store.now) (attribute_names_of a.store.now))
+    walk_all c.loop-i.invariant (from_none read_row (row_size a.rows.width) _ a.rows.count c.loop-i.i (omega arith)) (documents_bare (names_of a.store.now) (attribute_names_of a.store.now))

@@ -1,6 +1,5 @@
-use Rattle.std.proofs.Common.{◌≡◌, ap, ◌∙◌}
+use Rattle.std.proofs.Common.{ap, ◌∙◌}
 use Rattle.layout.specs.Bodies.{shape_of, definition_body, particle_body, attribute_body}
-use Rattle.layout.specs.Form.{FormOf, FormFits}
 use Rattle.layout.proofs.form_of.Goals as goal
 
 pub returns : goal.returns

@@ -7,6 +7,6 @@ use Rattle.printing.proofs.print_store.Goals as goal
 
 pub returns : goal.returns
 returns c =
-    let store_rows : RowsOf c.args.store.now c.width_in-w.result c.from_rows-rows.result.now =
-    record { width = c.width_in-w.ensures; body = c.from_rows-rows.ensures } in
-    laid_as (text_parts store_rows c.row_count-count.ensures.value) (laid_then c.put_form-formed.ensures.laid c.put_documents.ensures)
+    let store_rows : RowsOf c.args.store.now c.width_in.result c.from_rows.result.now =
+    record { width = c.width_in.ensures; body = c.from_rows.ensures } in
+    laid_as (text_parts store_rows c.row_count.ensures.value) (laid_then c.put_form-formed.ensures.laid c.put_documents.ensures)

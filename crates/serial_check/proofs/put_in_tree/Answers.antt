@@ -8,16 +8,14 @@ use Rattle.serial_check.proofs.put_in_tree.Goals as goal
 
 pub returns-then-h-eq0 : goal.returns-then-h-eq0
 returns-then-h-eq0 c =
-    put_root c.requires.3 _ c.requires.2 c.if-h-eq0.true
+    put_root c.requires.2 _ c.requires.1 c.if-h-eq0.true
 
-pub sought-at-requires : goal.sought-at-requires
-sought-at-requires c =
-    (c.requires.0, omega arith, omega (arith, c.requires.3.low (c.args.s % 4096)), rising_more _ 4096 (omega arith) c.requires.3.rising)
+pub sought-requires : goal.sought-requires
+sought-requires c =
+    (omega arith, omega (arith, c.requires.2.low (c.args.s % 4096)), rising_more _ 4096 (omega arith) c.requires.2.rising)
 
-pub returns-then-at-ge-PLACES : goal.returns-then-at-ge-PLACES
-returns-then-at-ge-PLACES c =
-    put_twice c.requires.3 _ c.requires.2 c.sought-at.ensures (omega arith)
+pub returns-in_default : goal.returns-in_default
+returns-in_default c = put_twice c.requires.2 _ c.requires.1 c.in_default.ensures
 
 pub returns : goal.returns
-returns c =
-    put_below c.requires.3 _ c.requires.2 c.sought-at.ensures (omega arith)
+returns c = put_below c.requires.2 _ c.requires.1 c.in-Some.ensures

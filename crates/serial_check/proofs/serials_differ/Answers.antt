@@ -11,7 +11,7 @@ loop-k-init c = trees_start _ _
 
 pub put_in_tree-requires : goal.put_in_tree-requires
 put_in_tree-requires c =
-    (c.requires.0, omega arith, c.serial_at-s.ensures, c.loop-k.invariant)
+    (omega arith, c.serial_at-s.ensures, c.loop-k.invariant)
 
 pub returns-then-not-put_in_tree : goal.returns-then-not-put_in_tree
 returns-then-not-put_in_tree c = refuses (put_refutes c.put_in_tree.ensures c.if-not-put_in_tree.true (omega arith))

@@ -10,4 +10,4 @@ serials_differ-requires c =
 pub returns : goal.returns
 returns c =
     let shape = c.requires.1 in
-    serials_in_lem (headed _ c.requires.0 c.shared_slice_known-1.given) shape (rows_of shape c.row_body-rows.ensures) c.serials_differ.ensures
+    serials_in_lem (headed _ c.requires.0 c.shared_slice_known-1.given) shape (rows_of shape c.row_body.ensures) c.serials_differ.ensures

@@ -25,7 +25,7 @@ use Rattle.printing_parts.proofs.WalkLaws.{walk_start, walk_deeper, walk_here, w
 use Rattle.document_printing.proofs.RowLaws.{end_short, row_short, element_enclosed, attribute_stepped, row_element_stepped, text_stepped}
 use Prim.Native.Nat.{ℕ}
 use Rattle.lookup.specs.Bodies.{rows_from}
-use Rattle.document_printing.proofs.+put_element_put_row_put_rows.Goals as goal
+use Rattle.document_printing.proofs.Printer.+put_element_put_row_put_rows.Goals as goal
 
 pub put_element-put_u8-signed-requires : goal.put_element-put_u8-signed-requires
 put_element-put_u8-signed-requires t c =
@@ -38,23 +38,20 @@ put_element-put-named-requires t c =
 pub put_element-put_rows-below-requires : goal.put_element-put_rows-below-requires
 put_element-put_rows-below-requires t c = (
   omega (arith, c.requires.0.room, c.requires.0.few, c.requires.1, c.requires.2, c.requires.3),
-  (
-    record {
-      few = omega (arith, c.requires.0.room, c.requires.0.few, c.requires.1, c.requires.2, c.requires.3);
-      deep = omega (arith, c.requires.0.room, c.requires.0.few, c.requires.1, c.requires.2, c.requires.3);
-      room = omega (
-        arith,
-        c.requires.0.room,
-        c.requires.0.few,
-        c.requires.1,
-        c.requires.2,
-        c.requires.3,
-        c.put_u8-signed.ensures.next,
-        c.put-named.ensures.next,
-      );
-    },
-    c.requires.4,
-  ),
+  record {
+    few = omega (arith, c.requires.0.room, c.requires.0.few, c.requires.1, c.requires.2, c.requires.3);
+    deep = omega (arith, c.requires.0.room, c.requires.0.few, c.requires.1, c.requires.2, c.requires.3);
+    room = omega (
+      arith,
+      c.requires.0.room,
+      c.requires.0.few,
+      c.requires.1,
+      c.requires.2,
+      c.requires.3,
+      c.put_u8-signed.ensures.next,
+      c.put-named.ensures.next,
+    );
+  },
 )
 
 pub put_element-put-closing-requires : goal.put_element-put-closing-requires
@@ -105,22 +102,22 @@ put_element-put_u8-requires t c =
 pub put_element-returns : goal.put_element-returns
 put_element-returns t c =
     let a = c.args in
-    element_enclosed a.store.now a.rows.now a.w a.count a.i a.depth a.name.now c.requires.3 c.put_u8-signed.ensures
+    element_enclosed a.self.now.store.now a.self.now.rows.bytes.now a.self.now.rows.width a.self.now.rows.count a.i a.depth a.name.now c.requires.3 c.put_u8-signed.ensures
     c.put-named.ensures c.put_rows-below.ensures c.put-closing.ensures c.put-closed.ensures c.put_u8.ensures
 
 pub put_row-short_value-requires : goal.put_row-short_value-requires
 put_row-short_value-requires t c =
-    row_short _ _ _ _ c.requires.3 c.row_at-bytes.ensures
+    row_short _ _ _ _ c.args.self.now.rows.narrow c.row-bytes.ensures
 
 pub put_row-put_attribute-written-requires : goal.put_row-put_attribute-written-requires
 put_row-put_attribute-written-requires t c =
-    (omega (arith, c.requires.0.room, c.requires.0.few, c.requires.1, c.requires.2), c.attribute_name_of.ensures.short, c.short_value.ensures.short)
+    (omega (arith, c.requires.0.room, c.requires.0.few, c.requires.1, c.requires.2), c.attribute_name_of-name.ensures.short, c.short_value.ensures.short)
 
 pub put_row-returns-then-eq : goal.put_row-returns-then-eq
 put_row-returns-then-eq t c =
     let a = c.args in
-    attribute_stepped a.store.now a.rows.now a.w a.count a.i a.depth a.opened _ c.row_at-bytes.ensures c.requires.1
-    refl c.row_index-index.ensures (is_sort _ Attribute c.row_sort_of-sort.ensures c.eq.ensures c.if-eq.true) c.attribute_name_of.ensures
+    attribute_stepped a.self.now.store.now a.self.now.rows.bytes.now a.self.now.rows.width a.self.now.rows.count a.i a.depth a.opened _ c.row-bytes.ensures c.requires.1
+    refl c.row_index-index.ensures (is_sort _ Attribute c.row_sort_of-sort.ensures c.eq.ensures c.if-eq.true) c.attribute_name_of-name.ensures
     c.short_value.ensures c.put_attribute-written.ensures
 
 pub put_row-put_element-requires : goal.put_row-put_element-requires
@@ -143,20 +140,19 @@ put_row-put_element-requires t c = (
     c.requires.1,
     c.requires.2,
     c.name_of-name.ensures.short,
-    c.requires.3,
   ),
 )
 
 pub put_row-returns-then-eq-2 : goal.put_row-returns-then-eq-2
 put_row-returns-then-eq-2 t c =
     let a = c.args in
-    row_element_stepped a.store.now a.rows.now a.w a.count a.i a.depth a.opened _ c.row_at-bytes.ensures c.requires.1
+    row_element_stepped a.self.now.store.now a.self.now.rows.bytes.now a.self.now.rows.width a.self.now.rows.count a.i a.depth a.opened _ c.row-bytes.ensures c.requires.1
     refl c.row_index-index.ensures (is_sort _ Element c.row_sort_of-sort.ensures c.eq-2.ensures c.if-eq-2.true) c.put_end-ended.ensures c.name_of-name.ensures
     c.put_element.ensures
 
 pub put_row-short_value-requires-2 : goal.put_row-short_value-requires-2
 put_row-short_value-requires-2 t c =
-    row_short _ _ _ _ c.requires.3 c.row_at-bytes.ensures
+    row_short _ _ _ _ c.args.self.now.rows.narrow c.row-bytes.ensures
 
 pub put_row-put_escaped-requires : goal.put_row-put_escaped-requires
 put_row-put_escaped-requires t c =
@@ -174,7 +170,7 @@ put_row-put_escaped-requires t c =
 pub put_row-returns : goal.put_row-returns
 put_row-returns t c =
     let a = c.args in
-    text_stepped a.store.now a.rows.now a.w a.count a.i a.depth a.opened _ c.row_at-bytes.ensures c.requires.1
+    text_stepped a.self.now.store.now a.self.now.rows.bytes.now a.self.now.rows.width a.self.now.rows.count a.i a.depth a.opened _ c.row-bytes.ensures c.requires.1
     refl c.row_index-index.ensures (no_sort _ Element c.row_sort_of-sort.ensures c.eq-2.ensures c.if-eq-2.false)
     (no_sort _ Attribute c.row_sort_of-sort.ensures c.eq.ensures c.if-eq.false) c.put_end-ended.ensures
     c.short_value-2.ensures c.put_escaped.ensures
@@ -184,16 +180,16 @@ put_rows-loop-i-init t c = walk_start _ _ _ _ _ _
 
 pub put_rows-put_end-end-requires : goal.put_rows-put_end-end-requires
 put_rows-put_end-end-requires t c =
-    omega (arith, c.requires.0.room, c.requires.0.few, c.requires.0.deep, c.loop-i.invariant.small)
+    omega (arith, c.requires.room, c.requires.few, c.requires.deep, c.loop-i.invariant.small)
 
 pub put_rows-returns-then-d-depth : goal.put_rows-returns-then-d-depth
 put_rows-returns-then-d-depth t c =
     let a = c.args in
-    let d : c.row_depth-d.result ≡ (read_row (record_at (row_size a.w) c.loop-i.i a.rows.now)).depth =
-    c.row_depth-d.ensures ∙ ap (λ (b : List ℕ). (read_row b).depth) c.row_at-bytes.ensures in
-    walk_stops c.loop-i.invariant (read_row (record_at (row_size a.w) c.loop-i.i a.rows.now)) _
-    (row_step_lem a.w a.rows.now a.count c.loop-i.i (omega arith)) (omega arith)
-    (rows_bare (names_of a.store.now) (attribute_names_of a.store.now) c.loop-i.opened) (end_short c.loop-i.opened)
+    let d : c.row_depth-d.result ≡ (read_row (record_at (row_size a.self.now.rows.width) c.loop-i.i a.self.now.rows.bytes.now)).depth =
+    c.row_depth-d.ensures ∙ ap (λ (b : List ℕ). (read_row b).depth) c.row-bytes.ensures in
+    walk_stops c.loop-i.invariant (read_row (record_at (row_size a.self.now.rows.width) c.loop-i.i a.self.now.rows.bytes.now)) _
+    (row_step_lem a.self.now.rows.width a.self.now.rows.bytes.now a.self.now.rows.count c.loop-i.i (omega arith)) (omega arith)
+    (rows_bare (names_of a.self.now.store.now) (attribute_names_of a.self.now.store.now) c.loop-i.opened) (end_short c.loop-i.opened)
     c.put_end-end.ensures
 
 pub put_rows-put_row-row-requires : goal.put_rows-put_row-row-requires
@@ -201,13 +197,12 @@ put_rows-put_row-row-requires t c = (
   omega (arith, c.loop-i.invariant.onward),
   (
     record {
-      few = omega (arith, c.requires.0.room, c.requires.0.few, c.requires.0.deep);
-      deep = omega (arith, c.requires.0.room, c.requires.0.few, c.requires.0.deep);
-      room = omega (arith, c.requires.0.room, c.requires.0.few, c.requires.0.deep, c.loop-i.invariant.small);
+      few = omega (arith, c.requires.room, c.requires.few, c.requires.deep);
+      deep = omega (arith, c.requires.room, c.requires.few, c.requires.deep);
+      room = omega (arith, c.requires.room, c.requires.few, c.requires.deep, c.loop-i.invariant.small);
     },
     omega arith,
     omega arith,
-    c.requires.1,
   ),
 )
 
@@ -218,33 +213,33 @@ put_rows-loop-i-smaller-then-d-depth-2 t c =
 pub put_rows-loop-i-preserved-then-d-depth-2 : goal.put_rows-loop-i-preserved-then-d-depth-2
 put_rows-loop-i-preserved-then-d-depth-2 t c =
     let a = c.args in
-    let d : c.row_depth-d.result ≡ (read_row (record_at (row_size a.w) c.loop-i.i a.rows.now)).depth =
-    c.row_depth-d.ensures ∙ ap (λ (b : List ℕ). (read_row b).depth) c.row_at-bytes.ensures in
+    let d : c.row_depth-d.result ≡ (read_row (record_at (row_size a.self.now.rows.width) c.loop-i.i a.self.now.rows.bytes.now)).depth =
+    c.row_depth-d.ensures ∙ ap (λ (b : List ℕ). (read_row b).depth) c.row-bytes.ensures in
     let q = c.stays_open-opened.ensures
-    ∙ ap (λ (b : List ℕ). stays (row_sort_of (read_row b).row.sort) c.loop-i.opened) c.row_at-bytes.ensures in
+    ∙ ap (λ (b : List ℕ). stays (row_sort_of (read_row b).row.sort) c.loop-i.opened) c.row-bytes.ensures in
     walk_as q
-    (walk_here c.loop-i.invariant (read_row (record_at (row_size a.w) c.loop-i.i a.rows.now))
-    (stays (row_sort_of (read_row (record_at (row_size a.w) c.loop-i.i a.rows.now)).row.sort) c.loop-i.opened) _
-    (row_step_lem a.w a.rows.now a.count c.loop-i.i (omega arith)) (omega arith) (omega arith)
-    (λ t. rows_tree (names_of a.store.now) (attribute_names_of a.store.now) c.loop-i.opened
-    (read_row (record_at (row_size a.w) c.loop-i.i a.rows.now)).row
-    (build (rows_from a.w a.rows.now a.count (c.loop-i.i + 1)) (suc a.depth)) t)
+    (walk_here c.loop-i.invariant (read_row (record_at (row_size a.self.now.rows.width) c.loop-i.i a.self.now.rows.bytes.now))
+    (stays (row_sort_of (read_row (record_at (row_size a.self.now.rows.width) c.loop-i.i a.self.now.rows.bytes.now)).row.sort) c.loop-i.opened) _
+    (row_step_lem a.self.now.rows.width a.self.now.rows.bytes.now a.self.now.rows.count c.loop-i.i (omega arith)) (omega arith) (omega arith)
+    (λ t. rows_tree (names_of a.self.now.store.now) (attribute_names_of a.self.now.store.now) c.loop-i.opened
+    (read_row (record_at (row_size a.self.now.rows.width) c.loop-i.i a.self.now.rows.bytes.now)).row
+    (build (rows_from a.self.now.rows.width a.self.now.rows.bytes.now a.self.now.rows.count (c.loop-i.i + 1)) (suc a.depth)) t)
     c.put_row-row.ensures)
 
 pub put_rows-loop-i-preserved : goal.put_rows-loop-i-preserved
 put_rows-loop-i-preserved t c =
     let a = c.args in
-    let d : c.row_depth-d.result ≡ (read_row (record_at (row_size a.w) c.loop-i.i a.rows.now)).depth =
-    c.row_depth-d.ensures ∙ ap (λ (b : List ℕ). (read_row b).depth) c.row_at-bytes.ensures in
-    walk_deeper c.loop-i.invariant (read_row (record_at (row_size a.w) c.loop-i.i a.rows.now)) (row_step_lem a.w a.rows.now a.count c.loop-i.i (omega arith)) (omega arith)
+    let d : c.row_depth-d.result ≡ (read_row (record_at (row_size a.self.now.rows.width) c.loop-i.i a.self.now.rows.bytes.now)).depth =
+    c.row_depth-d.ensures ∙ ap (λ (b : List ℕ). (read_row b).depth) c.row-bytes.ensures in
+    walk_deeper c.loop-i.invariant (read_row (record_at (row_size a.self.now.rows.width) c.loop-i.i a.self.now.rows.bytes.now)) (row_step_lem a.self.now.rows.width a.self.now.rows.bytes.now a.self.now.rows.count c.loop-i.i (omega arith)) (omega arith)
 
 pub put_rows-put_end-end-requires-2 : goal.put_rows-put_end-end-requires-2
 put_rows-put_end-end-requires-2 t c =
-    omega (arith, c.requires.0.room, c.requires.0.few, c.requires.0.deep, c.loop-i.invariant.small)
+    omega (arith, c.requires.room, c.requires.few, c.requires.deep, c.loop-i.invariant.small)
 
 pub put_rows-returns : goal.put_rows-returns
 put_rows-returns t c =
     let a = c.args in
-    walk_ends c.loop-i.invariant _ (from_none read_row (row_size a.w) _ a.count c.loop-i.i (omega arith))
-    (rows_bare (names_of a.store.now) (attribute_names_of a.store.now) c.loop-i.opened) (end_short c.loop-i.opened)
+    walk_ends c.loop-i.invariant _ (from_none read_row (row_size a.self.now.rows.width) _ a.self.now.rows.count c.loop-i.i (omega arith))
+    (rows_bare (names_of a.self.now.store.now) (attribute_names_of a.self.now.store.now) c.loop-i.opened) (end_short c.loop-i.opened)
     c.put_end-end-2.ensures

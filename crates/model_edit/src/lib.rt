@@ -25,12 +25,7 @@ fn keeps_within(change: &PlacedEdit, p: usize) -> bool
         return false;
     }
     let part = model_places::own_part(change.store, change.owner);
-    depth_check::is_within(
-        part,
-        change.edit,
-        change.place.holder,
-        change.place.particle,
-    )
+    depth_check::is_within(part, change.edit, change.place)
 }
 
 /// The store after a plan and an edit of a model.
@@ -53,6 +48,7 @@ pub fn edit_model(
     }
     let d = layout::definition_count(store);
     let a = layout::attribute_count(store);
+    // Of the largest form, as there is no heap.
     let mut form = [0; layout::MOST_FORM];
     let end = change.put_edited(&mut form);
     store_writer::edit_form(store, &form[..end], d, p, a, plan, text, out)

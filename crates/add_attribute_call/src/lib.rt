@@ -35,12 +35,14 @@ fn write_added(
     }
     let i = attribute_form::attributes_to(store, owner);
     let plan = attribute_plans::adding_plan(store, owner, i, sort);
+    // Of the largest form, as there is no heap.
     let mut form = [0; layout::MOST_FORM];
     let length = attribute_writer::put_added(store, i, owner, name, sort, value, &mut form);
     store_writer::edit_form(store, &form[..length], d, p, a + 1, plan, value, out)
 }
 
 /// 9: adds an attribute to a definition. REQUIRED: a row of it to each instance.
+// `sort` is a number, as the C interface gives it: each that is no sort's is refused.
 pub fn add_attribute(
     store: &[u8],
     owner: u32,

@@ -7,6 +7,7 @@ ghost use Rattle.rules.specs.Change.{convert_to_group};
 ghost use Rattle.rules.specs.Outcome.{outcome};
 ghost use Rattle.rules.specs.Given.{AnswersBy};
 
+use model_form::placed::PlacedEdit;
 use rules::Refusal;
 
 /// 6: converts `count` members from a place on into a group. `sort` is the code that C gives.
@@ -26,17 +27,13 @@ pub fn convert_to_group(
         return Err(Refusal::BadStore);
     }
     let members = group_refusals::convert_to_group_refusal(store, owner, place, count, sort)?;
-    let o = owner as usize;
     let edit = conversion::convert_edit(count, sort);
     let plan = plans::setting_plan(0);
-    model_edit::edit_model(
+    let change = PlacedEdit {
         store,
-        o,
+        owner: owner as usize,
         edit,
-        members.holder,
-        members.particle,
-        plan,
-        &store[..0],
-        out,
-    )
+        place: members,
+    };
+    model_edit::edit_model(&change, plan, &store[..0], out)
 }

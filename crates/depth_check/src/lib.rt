@@ -7,6 +7,7 @@ ghost use Rattle.model_writer.specs.Writing.{edit_of, shift, depths_within};
 ghost use Rattle.model_writer.specs.PartAfter.{moved, part_after};
 
 use layout::PARTICLE_SIZE;
+use model::place::Found;
 use model_writer::Edit;
 
 // Whether no particle is deeper than 4 once those of the first n members of
@@ -30,17 +31,18 @@ fn moved_within(ys: &[u8], d: usize, n: usize) -> bool
     true
 }
 
-/// Whether no particle of a model is deeper than 4 after an edit at particle n.
-pub fn is_within(part: &[u8], edit: Edit, holder: model::place::Holder, n: usize) -> bool
-    requires { (depths_within (particles_of part.now) ≡ true) × (n < 4611686018427387904) }
-    ensures { result ≡ depths_within (part_after (edit_of edit) holder n (particles_of part.now)) }
+/// Whether no particle of a model is deeper than 4 after an edit at a place.
+pub fn is_within(part: &[u8], edit: Edit, place: Found) -> bool
+    requires { (depths_within (particles_of part.now) ≡ true) × (place.particle < 4611686018427387904) }
+    ensures { result ≡ depths_within (part_after (edit_of edit) place.holder place.particle (particles_of part.now)) }
 {
+    let depth = place.holder.depth;
     match edit {
-        Edit::Insert(_, _) => holder.depth <= 4,
+        Edit::Insert(_, _) => depth <= 4,
         Edit::Remove => true,
         Edit::Quantify(_) => true,
-        Edit::Convert(_, m) => (holder.depth <= 4)
-            & moved_within(layout::particles_from(part, n), holder.depth, m),
+        Edit::Convert(_, m) => (depth <= 4)
+            & moved_within(layout::particles_from(part, place.particle), depth, m),
         Edit::Flatten => true,
     }
 }

@@ -22,6 +22,7 @@ fn write_dropped(store: &[u8], attribute: usize, out: &mut [u8]) -> Result<usize
     let p = layout::particle_count(store);
     let a = layout::attribute_count(store);
     let plan = attribute_plans::destroying_plan(store, attribute);
+    // Of the largest form, as there is no heap.
     let mut form = [0; layout::MOST_FORM];
     let length = attribute_writer::put_dropped(store, attribute, &mut form);
     store_writer::edit_form(store, &form[..length], d, p, a - 1, plan, &store[..0], out)

@@ -10,6 +10,7 @@ ghost use Rattle.rules.specs.Given.{AnswersBy};
 use rules::Refusal;
 
 /// 15: destroys the row of an attribute of an element.
+// Alike in three calls: one for all would take refusal and plan as closures, with contracts as long as this text.
 pub fn destroy_attribute_row(
     store: &[u8],
     element: u32,

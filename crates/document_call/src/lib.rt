@@ -9,6 +9,7 @@ ghost use Rattle.rules.specs.Given.{AnswersBy};
 use rules::Refusal;
 
 /// 11: a new last document, the filling of a definition.
+// Alike in three calls: one for all would take refusal and plan as closures, with contracts as long as this text.
 pub fn add_document(
     store: &[u8],
     definition: u32,

@@ -28,6 +28,7 @@ use Rattle.document_tokens.specs.Telling.{stack_of}
 use Rattle.document_tokens.proofs.ChoiceLaws.{stack_size}
 use Rattle.document_row_writer.specs.Putting.{documents_in, rows_or, rows_here, Starts, PartRead, SomePut}
 use Rattle.document_row_writer.specs.declared.Written.{Written}
+use Rattle.document_row_writer.specs.declared.Progress.{Progress}
 use Rattle.document_row_writer.proofs.RowLaws.{rows_ended}
 use Rattle.document_row_writer.proofs.PutLaws.{rows_start_lem}
 use Rattle.document_reading.specs.Judging.{fit_from, rows_fit, Judges}
@@ -35,10 +36,10 @@ use Rattle.document_reading.proofs.FitLaws.{fit_refused, fit_after, fit_many, mo
 
 -- what was put at a width that is the one of a form's bytes
 pub put_at_lem : {form : Bytes} {w : ℕ} → WidthIn form w → {d : Declared} {txt : Bytes} {m : ℕ} {opened : Bytes} {depth : ℕ} {tag : Bool} {limit : ℕ} {out : Bytes} {at : ℕ}
-    {r : code.Option Written} {opened' out' : Bytes} → SomePut w d txt m opened depth tag limit out at r opened' out'
-    → SomePut (width_of form) d txt m opened depth tag limit out at r opened' out'
-put_at_lem {form} {w} v {d} {txt} {m} {opened} {depth} {tag} {limit} {out} {at} {r} {opened'} {out'} p =
-    subst (λ (u : ℕ). SomePut u d txt m opened depth tag limit out at r opened' out') v.value p
+    {r : code.Option Written} {p' : Progress} {out' : Bytes} → SomePut w d txt m opened depth tag limit out at r p' out'
+    → SomePut (width_of form) d txt m opened depth tag limit out at r p' out'
+put_at_lem {form} {w} v {d} {txt} {m} {opened} {depth} {tag} {limit} {out} {at} {r} {p'} {out'} p =
+    subst (λ (u : ℕ). SomePut u d txt m opened depth tag limit out at r p' out') v.value p
 
 -- m rows came, and those from here on are left
 pub record Judging (b : Before) (d : Declared) (rows : Option (List (Deep FlatRow))) (s opened : Bytes) (depth : ℕ) (tag : Bool) (m : ℕ) (t : Bytes) : Type 0 where
@@ -73,22 +74,22 @@ judging_start b form txt opened {depth} {tag} {m} h s =
 module _ {b : Before} {d : Declared} {rows : Option (List (Deep FlatRow))} {s opened : Bytes} {depth : ℕ} {tag : Bool} {m : ℕ} {t : Bytes}
     (p : Judging b d rows s opened depth tag m t) where
   -- a token is not exact
-  pub judging_inexact : {limit : ℕ} {out opened' out' : Bytes} → SomePut b.width d t m opened depth tag limit out 0 None opened' out' → Judges b rows None
+  pub judging_inexact : {limit : ℕ} {out out' : Bytes} {p' : Progress} → SomePut b.width d t m opened depth tag limit out 0 None p' out' → Judges b rows None
   judging_inexact q = record { is = sym (p.is ∙ ap (fit_from b m s) q.is); counts = tt }
 
   -- some rows were put into an array
-  module _ {limit : ℕ} {out : Bytes} {k : Written} {opened' out' : Bytes} (q : SomePut b.width d t m opened depth tag limit out 0 (Some k) opened' out') where
-    abbrev part : PartRead b.width d t m opened depth tag out 0 k.size k.progress.count opened' k.progress.depth k.progress.tag out' k.at
+  module _ {limit : ℕ} {out : Bytes} {k : Written} {p' : Progress} {out' : Bytes} (q : SomePut b.width d t m opened depth tag limit out 0 (Some k) p' out') where
+    abbrev part : PartRead b.width d t m opened depth tag out 0 k.size p'.count p'.opened p'.depth p'.tag out' k.at
     part = q.is.part
 
     abbrev left : Option (List (Deep FlatRow))
-    left = rows_here b.width d k.progress.count opened' k.progress.depth k.progress.tag (drop k.size t)
+    left = rows_here b.width d p'.count p'.opened p'.depth p'.tag (drop k.size t)
 
     -- the verdict on them
     fit_is : {c : Bool} → fit_from b m s (with_rows part.made left) ≡ c → rows_fit b rows ≡ c
     fit_is h = p.is ∙ ap (fit_from b m s) part.rows ∙ h
 
-    pub judging_many : 4096 < k.progress.count → Judges b rows None
+    pub judging_many : 4096 < p'.count → Judges b rows None
     judging_many h = record { is = sym (fit_is (fit_many b m s part.made left (omega (arith, part.counted)))); counts = tt }
 
     -- the bytes of the rows that were put, where there is room for them
@@ -98,12 +99,12 @@ module _ {b : Before} {d : Declared} {rows : Option (List (Deep FlatRow))} {s op
     pub batch_whole : k.at ≤ length out → k.at ≡ length (take k.at out')
     batch_whole room = sym (length-take-le k.at out' (omega (arith, laid_long part.put.laid)))
 
-    pub batch_size : {n : ℕ} → n ≡ k.progress.count - m → k.at ≤ length out → row_size b.width * n ≤ length (take k.at out')
+    pub batch_size : {n : ℕ} → n ≡ p'.count - m → k.at ≤ length out → row_size b.width * n ≤ length (take k.at out')
     batch_size {n} h room =
         let many : n ≡ length part.made = omega (arith, part.counted) in
         omega (arith, rows_size part.put room, ap (λ (z : ℕ). row_size b.width * z) many)
 
-    pub batch_walked : {n : ℕ} → n ≡ k.progress.count - m → k.at ≤ length out → {bs : Bytes} → bs ≡ take k.at out' → {answer : Bool} {s' : Bytes} → WalkMade b s n bs answer s'
+    pub batch_walked : {n : ℕ} → n ≡ p'.count - m → k.at ≤ length out → {bs : Bytes} → bs ≡ take k.at out' → {answer : Bool} {s' : Bytes} → WalkMade b s n bs answer s'
         → WalkMade b s (length part.made) (each (row_bytes b.width) part.made) answer s'
     batch_walked {n} h room {bs} g {answer} {s'} made =
         let many : n ≡ length part.made = omega (arith, part.counted) in
@@ -114,10 +115,10 @@ module _ {b : Before} {d : Declared} {rows : Option (List (Deep FlatRow))} {s op
       pub judging_refused : answer ≡ false → Judges b rows None
       judging_refused h = record { is = sym (fit_is (fit_refused b part.made made m left h)); counts = tt }
 
-      pub judging_on : {t' : Bytes} → answer ≡ true → k.progress.count ≤ 4096 → length opened' ≡ 256 → t' ≡ drop k.size t
-          → Judging b d rows s' opened' k.progress.depth k.progress.tag k.progress.count t'
+      pub judging_on : {t' : Bytes} → answer ≡ true → p'.count ≤ 4096 → length p'.opened ≡ 256 → t' ≡ drop k.size t
+          → Judging b d rows s' p'.opened p'.depth p'.tag p'.count t'
       judging_on h few stack g =
-          let goes : fit_from b m s (rows_here b.width d m opened depth tag t) ≡ fit_from b k.progress.count s' left =
+          let goes : fit_from b m s (rows_here b.width d m opened depth tag t) ≡ fit_from b p'.count s' left =
           ap (fit_from b m s) part.rows ∙ fit_after b part.made made m left h ∙ ap (λ (z : ℕ). fit_from b z s' left) part.counted in
           rw g
           (record {
@@ -125,7 +126,7 @@ module _ {b : Before} {d : Declared} {rows : Option (List (Deep FlatRow))} {s op
             counts = λ x.
                 p.counts (goes ∙ x)
                 ∙ ap (λ (o : Option (List (Deep FlatRow))). m + length (rows_or o)) part.rows
-                ∙ more_rows b part.made k.progress.count m s' left x
+                ∙ more_rows b part.made p'.count m s' left x
                 ∙ ap (λ (z : ℕ). z + length (rows_or left)) part.counted;
             few = few;
             fits = made.fits;

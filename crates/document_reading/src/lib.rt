@@ -25,7 +25,6 @@ fn judge_by(form: &[u8], table: &[u64], text: &[u8]) -> Option<usize>
 {
     let w = layout::width_in(form);
     let mut state = [0; STATE];
-    let mut opened = [0; 256];
     let mut rows = [0; BATCH_BYTES];
     let mut here = document_row_writer::start();
     let mut t = text;
@@ -33,8 +32,7 @@ fn judge_by(form: &[u8], table: &[u64], text: &[u8]) -> Option<usize>
     while 0 < t.len() {
         let before = here.count;
         let most = before + BATCH;
-        let put = document_row_writer::put_rows(w, form, &mut opened, here, most, t, &mut rows, 0)?;
-        here = put.progress;
+        let put = document_row_writer::put_rows(w, form, &mut here, most, t, &mut rows, 0)?;
         if layout::MAX_ROWS < here.count {
             return None;
         }

@@ -26,6 +26,7 @@ use Rattle.document_tokens.specs.Telling.{stack_of, Tells, TokenTold}
 use Rattle.document_tokens.proofs.TokenLaws.{token_fits, with_none, with_append}
 use Rattle.document_row_writer.specs.Putting.{documents_in, rows_or, RowsRead, rows_here, made_row, made_count, Advanced, RowsPut, Starts, PartRead, TokenPut, SomeRead, SomePut}
 use Rattle.document_row_writer.specs.declared.Written.{Written}
+use Rattle.document_row_writer.specs.declared.Progress.{Progress}
 use Rattle.document_row_writer.proofs.RowLaws.{rows_refused, rows_ended}
 use Rattle.document_row_writer.proofs.AfterLaws.{made_many, made_few, rows_made_lem, made_counted, rows_left_lem}
 
@@ -78,13 +79,13 @@ module _ (w : ℕ) (d : Declared) (txt : Bytes) (m : ℕ) (opened : Bytes) (dept
   abbrev t : Token
   t = token_at d w (stack_of depth opened) tag txt
 
-  pub token_refused : {value v' : Bytes} → Tells t value None v' → {out out' opened' : Bytes} {at : ℕ} → TokenPut w d txt m opened depth tag out at None opened' out'
+  pub token_refused : {value v' : Bytes} → Tells t value None v' → {out out' : Bytes} {p' : Progress} {at : ℕ} → TokenPut w d txt m opened depth tag out at None p' out'
   token_refused p = record { is = rows_refused d w (m + 1) (stack_of depth opened) tag txt there (sym p.is) }
 
   pub token_put : {size sort index n : ℕ} {v' v : Bytes} → t.exact ≡ true → TokenTold t size sort index n v' → v ≡ take n v'
       → {out out' : Bytes} {at at' : ℕ} → RowsPut w (made_row sort depth index (m + 1) v) out at at' out'
       → {m' depth' : ℕ} {opened' : Bytes} {tag' : Bool} → Advanced tag opened depth sort index depth' opened' → m' ≡ m + made_count sort → tag' ≡ (eqb sort 1 || eqb sort 2)
-      → TokenPut w d txt m opened depth tag out at (Some (record { size = size; progress = record { depth = depth'; tag = tag'; count = m' }; at = at' })) opened' out'
+      → TokenPut w d txt m opened depth tag out at (Some (record { size = size; at = at' })) (record { opened = opened'; depth = depth'; tag = tag'; count = m' }) out'
   token_put {size} {sort} {index} {n} {v'} {v} exact told valued {out} {out'} {at} {at'} p {m'} {depth'} {opened'} {tag'} adv mm g =
       let fits = token_fits d w (stack_of depth opened) tag txt exact in
       let onward : 0 < size = omega (arith, told.size_is, fits.onward) in
@@ -124,11 +125,11 @@ module _ {w : ℕ} {d : Declared} {txt : Bytes} {m : ℕ} {opened : Bytes} {dept
   putting_room h = omega (arith, p.part.put.small, p.part.counted, p.ceiling)
 
   module _ {t : Bytes} (e : t ≡ drop size txt) where
-    pub putting_on : {p₂ : Written} {opened₂ out₂ : Bytes} → TokenPut w d t m₁ opened₁ depth₁ tag₁ out₁ at₁ (Some p₂) opened₂ out₂ → m₁ < limit
-        → Putting w d txt m opened depth tag limit out at (size + p₂.size) p₂.progress.count opened₂ p₂.progress.depth p₂.progress.tag out₂ p₂.at
+    pub putting_on : {p₂ : Written} {g₂ : Progress} {out₂ : Bytes} → TokenPut w d t m₁ opened₁ depth₁ tag₁ out₁ at₁ (Some p₂) g₂ out₂ → m₁ < limit
+        → Putting w d txt m opened depth tag limit out at (size + p₂.size) g₂.count g₂.opened g₂.depth g₂.tag out₂ p₂.at
     putting_on q h = record { part = part_then p.part e q.is.part; ceiling = omega (arith, q.is.more) }
 
-    pub putting_refused : {opened₂ out₂ : Bytes} → TokenPut w d t m₁ opened₁ depth₁ tag₁ out₁ at₁ None opened₂ out₂ → SomePut w d txt m opened depth tag limit out at None opened₂ out₂
+    pub putting_refused : {g₂ : Progress} {out₂ : Bytes} → TokenPut w d t m₁ opened₁ depth₁ tag₁ out₁ at₁ None g₂ out₂ → SomePut w d txt m opened depth tag limit out at None g₂ out₂
     putting_refused q = record { is = part_refused p.part e q.is }
 
   -- the loop ends at the end of the text or at the limit
@@ -143,7 +144,7 @@ module _ {w : ℕ} {d : Declared} {txt : Bytes} {m : ℕ} {opened : Bytes} {dept
       by false e h = inl (ltb-false size (length txt) e)
 
   pub putting_ended : m < limit → (ltb size (length txt) && ltb m₁ limit) ≡ false
-      → SomePut w d txt m opened depth tag limit out at (Some (record { size = size; progress = record { depth = depth₁; tag = tag₁; count = m₁ }; at = at₁ })) opened₁ out₁
+      → SomePut w d txt m opened depth tag limit out at (Some (record { size = size; at = at₁ })) (record { opened = opened₁; depth = depth₁; tag = tag₁; count = m₁ }) out₁
   putting_ended h g =
       record {
         is = record {
@@ -206,10 +207,10 @@ module _ (w : ℕ) (form txt opened : Bytes) (read : RowsRead w form txt) {depth
 
 -- .. and there are rows
 pub documents_there : (w : ℕ) (form txt opened : Bytes) → RowsRead w form txt → {depth : ℕ} {tag : Bool} {m : ℕ} → Starts depth tag m → {out : Bytes} {at : ℕ}
-    {opened' out' : Bytes} → SomePut w (declared_in form) txt m opened depth tag 4097 out at None opened' out' → ⊥
+    {p' : Progress} {out' : Bytes} → SomePut w (declared_in form) txt m opened depth tag 4097 out at None p' out' → ⊥
 documents_there w form txt opened read s p = false≢true (sym (ap is_there (sym (rows_start_lem w form txt opened s) ∙ p.is)) ∙ read.there)
 
 pub documents_put : (w : ℕ) (form txt opened : Bytes) → RowsRead w form txt → {depth : ℕ} {tag : Bool} {m : ℕ} → Starts depth tag m → {out : Bytes} {at : ℕ} {k : Written}
-    {opened' out' : Bytes} → SomePut w (declared_in form) txt m opened depth tag 4097 out at (Some k) opened' out'
+    {p' : Progress} {out' : Bytes} → SomePut w (declared_in form) txt m opened depth tag 4097 out at (Some k) p' out'
     → Laid (each (row_bytes w) (rows_or (documents_in w form txt))) out at k.at out'
 documents_put w form txt opened read s p = all_put w form txt opened read s p.is

@@ -12,6 +12,7 @@ use Rattle.layout.specs.RowBytes.{row_of}
 use Rattle.document_tokens.specs.Tokens.{Declared, declared_in, with_rows, document_rows}
 use Rattle.document_tokens.specs.Telling.{stack_of}
 use Rattle.document_row_writer.specs.declared.Written.{Written}
+use Rattle.document_row_writer.specs.declared.Progress.{Progress}
 
 -- the rows of the documents of a text, by a form
 abbrev pub documents_in : ℕ → Bytes → Bytes → Option (List (Deep FlatRow))
@@ -85,9 +86,9 @@ pub record TokenRead (w : ℕ) (d : Declared) (txt : Bytes) (m : ℕ) (opened : 
   pub more : m' ≤ m + 1
 
 -- .. or it is not exact, and there are no rows
-pub record TokenPut (w : ℕ) (d : Declared) (txt : Bytes) (m : ℕ) (opened : Bytes) (depth : ℕ) (tag : Bool) (out : Bytes) (at : ℕ) (r : code.Option Written) (opened' out' : Bytes) : Type 0 where
+pub record TokenPut (w : ℕ) (d : Declared) (txt : Bytes) (m : ℕ) (opened : Bytes) (depth : ℕ) (tag : Bool) (out : Bytes) (at : ℕ) (r : code.Option Written) (p' : Progress) (out' : Bytes) : Type 0 where
   pub is : MatchOption r (rows_here w d m opened depth tag txt ≡ none)
-      (λ p. TokenRead w d txt m opened depth tag out at p.size p.progress.count opened' p.progress.depth p.progress.tag out' p.at)
+      (λ p. TokenRead w d txt m opened depth tag out at p.size p'.count p'.opened p'.depth p'.tag out' p.at)
 
 -- tokens were read up to row `limit`, or to the end of the text if that comes first
 pub record SomeRead (w : ℕ) (d : Declared) (txt : Bytes) (m : ℕ) (opened : Bytes) (depth : ℕ) (tag : Bool) (limit : ℕ) (out : Bytes) (at : ℕ)
@@ -99,6 +100,6 @@ pub record SomeRead (w : ℕ) (d : Declared) (txt : Bytes) (m : ℕ) (opened : B
 
 -- .. or one of them is not exact, and there are no rows
 pub record SomePut (w : ℕ) (d : Declared) (txt : Bytes) (m : ℕ) (opened : Bytes) (depth : ℕ) (tag : Bool) (limit : ℕ) (out : Bytes) (at : ℕ)
-    (r : code.Option Written) (opened' out' : Bytes) : Type 0 where
+    (r : code.Option Written) (p' : Progress) (out' : Bytes) : Type 0 where
   pub is : MatchOption r (rows_here w d m opened depth tag txt ≡ none)
-      (λ p. SomeRead w d txt m opened depth tag limit out at p.size p.progress.count opened' p.progress.depth p.progress.tag out' p.at)
+      (λ p. SomeRead w d txt m opened depth tag limit out at p.size p'.count p'.opened p'.depth p'.tag out' p.at)

@@ -34,27 +34,6 @@ fn tag_after(sort: Option<RowSort>) -> bool
     }
 }
 
-// The definitions that are opened after a token; how many they are is handed back.
-fn advance(
-    opened: &mut [u8; 256],
-    depth: usize,
-    tag: bool,
-    sort: Option<RowSort>,
-    index: usize,
-) -> usize
-    requires { (length opened.old ≡ 256) × (depth ≤ 255) × (index < 256) × (sort_code sort ≡ 1 → depth < 255) }
-    ensures { Advanced tag opened.old depth (sort_code sort) index result opened.new }
-{
-    match sort {
-        Some(RowSort::Element) => {
-            opened[depth] = index as u8;
-            depth + 1
-        }
-        None if !tag => layout::minus(depth, 1),
-        _ => depth,
-    }
-}
-
 // Writes the row that a token makes, if it makes one.
 fn put_made(
     w: usize,
@@ -78,31 +57,50 @@ fn put_made(
 
 // ---- rows, token by token
 
-/// Where documents go on: how many definitions are opened, whether a start tag is not ended, how many rows came before.
+/// Where documents go on: the definitions that are opened, so many of them as `depth` says, the last innermost; whether
+/// a start tag is not ended; how many rows came before.
 #[derive(Clone, Copy)]
 pub struct Progress {
+    pub opened: [u8; 256],
     pub depth: usize,
     pub tag: bool,
     pub count: usize,
 }
 
+impl Progress {
+    // Opens and closes definitions as a token does.
+    fn advance(&mut self, sort: Option<RowSort>, index: usize)
+        requires { (length self.old.opened ≡ 256) × (self.old.depth ≤ 255) × (index < 256) × (sort_code sort ≡ 1 → self.old.depth < 255) }
+        ensures { Advanced self.old.tag self.old.opened self.old.depth (sort_code sort) index self.new.depth self.new.opened
+            × (self.new.tag ≡ self.old.tag) × (self.new.count ≡ self.old.count) }
+    {
+        match sort {
+            Some(RowSort::Element) => {
+                self.opened[self.depth] = index as u8;
+                self.depth += 1;
+            }
+            None if !self.tag => self.depth = layout::minus(self.depth, 1),
+            _ => {}
+        }
+    }
+}
+
 /// Where documents begin.
 pub fn start() -> Progress
-    ensures { Starts result.depth result.tag result.count }
+    ensures { Starts result.depth result.tag result.count × (length result.opened ≡ 256) }
 {
     Progress {
+        opened: [0; 256],
         depth: 0,
         tag: false,
         count: 0,
     }
 }
 
-/// What was read and written: how many bytes the tokens are, where the documents go on, and where the next row is
-/// written.
+/// What was read and written: how many bytes the tokens are, and where the next row is written.
 #[derive(Clone, Copy)]
 pub struct Written {
     pub size: usize,
-    pub progress: Progress,
     pub at: usize,
 }
 
@@ -110,34 +108,43 @@ pub struct Written {
 fn put_token(
     w: usize,
     form: &[u8],
-    opened: &mut [u8; 256],
-    progress: Progress,
+    here: &mut Progress,
     text: &[u8],
     value: &mut [u8],
     out: &mut [u8],
     at: usize,
 ) -> Option<Written>
-    requires { Width w × FormRoom form.now × (length opened.old ≡ 256) × (progress.depth ≤ 255) × (progress.count ≤ 8192) × (0 < length text.now)
+    requires { Width w × FormRoom form.now × (length here.old.opened ≡ 256) × (here.old.depth ≤ 255) × (here.old.count ≤ 8192) × (0 < length text.now)
         × (w ≤ length value.old) × (at < 4611686018429575168) }
-    ensures { TokenPut w (declared_in form.now) text.now progress.count opened.old progress.depth progress.tag out.old at result opened.new out.new
-        × Kept out.old opened.new out.new × (length value.new ≡ length value.old) }
+    ensures { TokenPut w (declared_in form.now) text.now here.old.count here.old.opened here.old.depth here.old.tag out.old at result here.new out.new
+        × Kept out.old here.new.opened out.new × (length value.new ≡ length value.old) }
 {
-    let depth = progress.depth;
-    let tag = progress.tag;
-    let count = progress.count;
-    let token = document_tokens::token_at(w, form, text, opened, depth, tag, value)?;
-    let sort = token.sort;
-    let index = token.index;
+    let token = document_tokens::token_at(
+        w,
+        form,
+        text,
+        &here.opened,
+        here.depth,
+        here.tag,
+        value,
+    )?;
     let read = codec::first(value, token.length);
-    let next = put_made(w, sort, depth, index, count + 1, read, out, at);
-    let progress = Progress {
-        depth: advance(opened, depth, tag, sort, index),
-        tag: tag_after(sort),
-        count: count + made(sort),
-    };
+    let serial = here.count + 1;
+    let next = put_made(
+        w,
+        token.sort,
+        here.depth,
+        token.index,
+        serial,
+        read,
+        out,
+        at,
+    );
+    here.advance(token.sort, token.index);
+    here.tag = tag_after(token.sort);
+    here.count += made(token.sort);
     Some(Written {
         size: token.size,
-        progress,
         at: next,
     })
 }
@@ -146,34 +153,27 @@ fn put_token(
 pub fn put_rows(
     w: usize,
     form: &[u8],
-    opened: &mut [u8; 256],
-    progress: Progress,
+    here: &mut Progress,
     limit: usize,
     text: &[u8],
     out: &mut [u8],
     at: usize,
 ) -> Option<Written>
-    requires { Width w × FormRoom form.now × (length opened.old ≡ 256) × (progress.depth ≤ 255) × (progress.count < limit) × (limit ≤ 8192) × (at < 4611686018427387904) }
-    ensures { SomePut w (declared_in form.now) text.now progress.count opened.old progress.depth progress.tag limit out.old at result opened.new out.new
-        × Kept out.old opened.new out.new }
+    requires { Width w × FormRoom form.now × (length here.old.opened ≡ 256) × (here.old.depth ≤ 255) × (here.old.count < limit) × (limit ≤ 8192) × (at < 4611686018427387904) }
+    ensures { SomePut w (declared_in form.now) text.now here.old.count here.old.opened here.old.depth here.old.tag limit out.old at result here.new out.new
+        × Kept out.old here.new.opened out.new }
 {
     let mut value = [0; 256];
-    let mut here = progress;
     let mut next = at;
     let mut size = 0;
     // A `while`: a token has any number of bytes, and the rows end it too.
     while (size < text.len()) & (here.count < limit) {
         let t = codec::after(text, size);
-        let put = put_token(w, form, opened, here, t, &mut value, out, next)?;
-        here = put.progress;
+        let put = put_token(w, form, here, t, &mut value, out, next)?;
         next = put.at;
         size += put.size;
     }
-    Some(Written {
-        size,
-        progress: here,
-        at: next,
-    })
+    Some(Written { size, at: next })
 }
 
 /// Writes the rows of the documents of a text, of which all tokens are exact.
@@ -181,10 +181,10 @@ pub fn put_documents(w: usize, form: &[u8], text: &[u8], out: &mut [u8], at: usi
     requires { Width w × FormRoom form.now × RowsRead w form.now text.now × (at < 4611686018427387904) }
     ensures { Laid (each (row_bytes w) (rows_or (documents_in w form.now text.now))) out.old at result out.new }
 {
-    let mut opened = [0; 256];
+    let mut here = start();
     let limit = layout::MAX_ROWS + 1;
     // There are rows, as is required.
-    let Some(put) = put_rows(w, form, &mut opened, start(), limit, text, out, at) else {
+    let Some(put) = put_rows(w, form, &mut here, limit, text, out, at) else {
         return at;
     };
     put.at

@@ -7,6 +7,7 @@ ghost use Rattle.rules.specs.Change.{flatten_group};
 ghost use Rattle.rules.specs.Outcome.{outcome};
 ghost use Rattle.rules.specs.Given.{AnswersBy};
 
+use model_form::placed::PlacedEdit;
 use rules::Refusal;
 
 /// 7: flattens a group into its list.
@@ -23,17 +24,13 @@ pub fn flatten_group(
         return Err(Refusal::BadStore);
     }
     let group = group_refusals::flatten_group_refusal(store, owner, place)?;
-    let o = owner as usize;
     let edit = conversion::flatten_edit();
     let plan = plans::setting_plan(0);
-    model_edit::edit_model(
+    let change = PlacedEdit {
         store,
-        o,
+        owner: owner as usize,
         edit,
-        group.holder,
-        group.particle,
-        plan,
-        &store[..0],
-        out,
-    )
+        place: group,
+    };
+    model_edit::edit_model(&change, plan, &store[..0], out)
 }

@@ -7,6 +7,7 @@ ghost use Rattle.rules.specs.Change.{insert_element};
 ghost use Rattle.rules.specs.Outcome.{outcome};
 ghost use Rattle.rules.specs.Given.{AnswersBy};
 
+use model_form::placed::PlacedEdit;
 use model_writer::Edit;
 use rules::{Quantifier, Refusal};
 
@@ -37,5 +38,11 @@ pub fn insert_element(
     let part = model_places::own_part(store, o);
     let plan = member_plans::inserting_plan(part, o, gap.particle, gap.holder.spine, i, quantifier);
     let edit = Edit::Insert(Quantifier::from(quantifier as u8), i);
-    model_edit::edit_model(store, o, edit, gap.holder, gap.particle, plan, text, out)
+    let change = PlacedEdit {
+        store,
+        owner: o,
+        edit,
+        place: gap,
+    };
+    model_edit::edit_model(&change, plan, text, out)
 }

@@ -1,1 +1,3 @@
 pub mod Editing
+pub mod Placed
+pub mod Props

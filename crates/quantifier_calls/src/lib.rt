@@ -7,6 +7,7 @@ ghost use Rattle.rules.specs.Outcome.{outcome};
 ghost use Rattle.rules.specs.Given.{AnswersBy};
 ghost use Rattle.quantifier_refusals.specs.Requantifying.{requantify};
 
+use model_form::placed::PlacedEdit;
 use model_writer::Edit;
 use rules::{Quantifier, Refusal};
 
@@ -36,14 +37,11 @@ pub fn requantify(
     let part = model_places::own_part(store, o);
     let plan = quantifier_plans::new_plan(store, part, o, found.holder, found.particle, new, group);
     let edit = Edit::Quantify(new);
-    model_edit::edit_model(
+    let change = PlacedEdit {
         store,
-        o,
+        owner: o,
         edit,
-        found.holder,
-        found.particle,
-        plan,
-        text,
-        out,
-    )
+        place: found,
+    };
+    model_edit::edit_model(&change, plan, text, out)
 }

@@ -7,6 +7,7 @@ ghost use Rattle.rules.specs.Change.{remove_element};
 ghost use Rattle.rules.specs.Outcome.{outcome};
 ghost use Rattle.rules.specs.Given.{AnswersBy};
 
+use model_form::placed::PlacedEdit;
 use model_writer::Edit;
 use rules::Refusal;
 
@@ -27,14 +28,11 @@ pub fn remove_element(
     let element = remove_refusals::remove_element_refusal(store, owner, place)?;
     let o = owner as usize;
     let plan = member_plans::removing_plan(model_places::own_part(store, o), o, element.particle);
-    model_edit::edit_model(
+    let change = PlacedEdit {
         store,
-        o,
-        Edit::Remove,
-        element.holder,
-        element.particle,
-        plan,
-        &store[..0],
-        out,
-    )
+        owner: o,
+        edit: Edit::Remove,
+        place: element,
+    };
+    model_edit::edit_model(&change, plan, &store[..0], out)
 }

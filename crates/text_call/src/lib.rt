@@ -10,6 +10,7 @@ ghost use Rattle.rules.specs.Given.{AnswersBy};
 use rules::Refusal;
 
 /// 16: sets the text of a PCDATA element.
+// Alike in three calls: one for all would take refusal and plan as closures, with contracts as long as this text.
 pub fn set_text(store: &[u8], element: u32, text: &[u8], out: &mut [u8]) -> Result<usize, Refusal>
     ensures { AnswersBy (outcome (set_text element text.now) store.now (length out.old)) out.old result out.new }
 {

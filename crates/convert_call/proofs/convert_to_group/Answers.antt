@@ -30,15 +30,19 @@ returns-in_err-members c =
     (turned_away_by (convert_to_group a.owner a.place.now a.count a.sort) a.store.now (length a.out.now) a.out.now
     (ap not c.if-not-passes.false) c.passes.ensures c.in_err-members.field-0.0 c.in_err-members.ensures.0)
 
-pub edit_model-requires : goal.edit_model-requires
-edit_model-requires c =
+pub invariant_of-change : goal.invariant_of-change
+invariant_of-change c =
     let a = c.args in
     let none = sym c.in_ok-members.ensures.0 in
     let fits = convert_fits a.store.now (passed a.store.now (ap not c.if-not-passes.false) c.passes.ensures) a.owner a.place.now a.count a.sort none in
     let place = c.in_ok-members.ensures.1 in
     let edit = c.convert_edit-edit.result in
     let same = c.convert_edit-edit.ensures in
-    (asks fits edit same place, none_value (width_of a.store.now), keeping_sized c.setting_plan-plan.ensures)
+    record { fits = asks fits edit same place }
+
+pub edit_model-requires : goal.edit_model-requires
+edit_model-requires c =
+    (none_value (width_of c.args.store.now), keeping_sized c.setting_plan-plan.ensures)
 
 pub returns : goal.returns
 returns c =

@@ -13,7 +13,7 @@ use Rattle.document_reading.proofs.LoopLaws.{batch_room, batch_whole, batch_size
 use Rattle.document_reading.proofs.judge_by.Goals as goal
 
 pub loop-t-init : goal.loop-t-init
-loop-t-init c = (length-replicate {A = ℕ} 4272 0, judging_start _ _ _ _ refl c.start-here.ensures)
+loop-t-init c = (length-replicate {A = ℕ} 4272 0, judging_start _ _ _ _ c.start-here.ensures.1 c.start-here.ensures.0)
 
 pub overflow_add-most : goal.overflow_add-most
 overflow_add-most c =

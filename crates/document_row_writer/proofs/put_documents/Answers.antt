@@ -6,9 +6,9 @@ use Rattle.document_row_writer.proofs.put_documents.Goals as goal
 pub returns : goal.returns
 returns c =
     let a = c.args in
-    documents_put a.w a.form.now a.text.now _ c.requires.2 c.start.ensures c.in-Some.ensures.0
+    documents_put a.w a.form.now a.text.now _ c.requires.2 c.start-here.ensures.0 c.in-Some.ensures.0
 
 pub returns-in_default : goal.returns-in_default
 returns-in_default c =
     let a = c.args in
-    absurd (documents_there a.w a.form.now a.text.now _ c.requires.2 c.start.ensures c.in_default.ensures.0)
+    absurd (documents_there a.w a.form.now a.text.now _ c.requires.2 c.start-here.ensures.0 c.in_default.ensures.0)

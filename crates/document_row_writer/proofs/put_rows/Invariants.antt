@@ -9,8 +9,8 @@ use Rattle.document_row_writer.proofs.put_rows.Given as goal
 -- the first `size` bytes are read and their rows written; the arrays keep their lengths
 abbrev pub invariant-loop-size : goal.invariant-loop-size
 invariant-loop-size l =
-    Putting l.w (declared_in l.form) l.text l.initial.here.count l.initial.opened l.initial.here.depth l.initial.here.tag l.limit l.initial.out l.at l.size l.here.count l.opened l.here.depth l.here.tag l.out l.next
-    × Kept l.initial.out l.opened l.out
+    Putting l.w (declared_in l.form) l.text l.initial.here.count l.initial.here.opened l.initial.here.depth l.initial.here.tag l.limit l.initial.out l.at l.size l.here.count l.here.opened l.here.depth l.here.tag l.out l.next
+    × Kept l.initial.out l.here.opened l.out
     × (length l.value ≡ 256)
 
 abbrev pub decreases-loop-size : goal.decreases-loop-size

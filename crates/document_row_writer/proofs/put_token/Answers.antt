@@ -17,7 +17,7 @@ returns-in_err-token c =
     let a = c.args in
     let p = c.requires in
     rw c.from_residual.ensures (
-      token_refused a.w (declared_in a.form.now) a.text.now a.progress.count a.opened.now a.progress.depth a.progress.tag p.5 c.in_err-token.ensures,
+      token_refused a.w (declared_in a.form.now) a.text.now a.here.now.count a.here.now.opened a.here.now.depth a.here.now.tag p.5 c.in_err-token.ensures,
       record { stack = p.2; long = refl },
       c.in_err-token.ensures.long,
     )
@@ -27,7 +27,7 @@ put_made-next-requires c =
     let a = c.args in
     let p = c.requires in
     let told = c.in_ok-token.ensures.told in
-    let fits = token_fits (declared_in a.form.now) a.w (stack_of a.progress.depth a.opened.now) a.progress.tag a.text.now (sym c.in_ok-token.ensures.is) in (
+    let fits = token_fits (declared_in a.form.now) a.w (stack_of a.here.now.depth a.here.now.opened) a.here.now.tag a.text.now (sym c.in_ok-token.ensures.is) in (
       p.0,
       p.7,
       omega (arith, p.3),
@@ -40,24 +40,24 @@ advance-requires c =
     let a = c.args in
     let p = c.requires in
     let told = c.in_ok-token.ensures.told in
-    let fits = token_fits (declared_in a.form.now) a.w (stack_of a.progress.depth a.opened.now) a.progress.tag a.text.now (sym c.in_ok-token.ensures.is) in (
+    let fits = token_fits (declared_in a.form.now) a.w (stack_of a.here.now.depth a.here.now.opened) a.here.now.tag a.text.now (sym c.in_ok-token.ensures.is) in (
       p.2,
       p.3,
       index_small a.form.now fits told p.1.definitions_few p.1.attributes_few,
-      opens_more a.form.now fits told (stack_size a.progress.depth a.opened.now),
+      opens_more a.form.now fits told (stack_size a.here.now.depth a.here.now.opened),
     )
 
-pub overflow_add-progress : goal.overflow_add-progress
-overflow_add-progress c =
-    omega (arith, c.made.ensures, made_few (sort_code c.in_ok-token.token.sort), c.requires.4)
+pub overflow_add-here : goal.overflow_add-here
+overflow_add-here c =
+    omega (arith, c.made.ensures, made_few (sort_code c.in_ok-token.token.sort), c.requires.4, c.advance.ensures.2)
 
 pub returns : goal.returns
 returns c =
     let a = c.args in
     let p = c.requires in
-    let adv = c.advance.ensures in (
-      token_put a.w (declared_in a.form.now) a.text.now a.progress.count a.opened.now a.progress.depth a.progress.tag p.5 (sym c.in_ok-token.ensures.is)
-          c.in_ok-token.ensures.told c.first-read.ensures c.put_made-next.ensures adv (omega (arith, c.made.ensures)) c.tag_after.ensures,
+    let adv = c.advance.ensures.0 in (
+      token_put a.w (declared_in a.form.now) a.text.now a.here.now.count a.here.now.opened a.here.now.depth a.here.now.tag p.5 (sym c.in_ok-token.ensures.is)
+          c.in_ok-token.ensures.told c.first-read.ensures c.put_made-next.ensures adv (omega (arith, c.made.ensures, c.advance.ensures.2)) c.tag_after-here.ensures,
       record { stack = adv.long; long = laid_long c.put_made-next.ensures.laid },
       c.in_ok-token.ensures.long,
     )

@@ -51,16 +51,20 @@ overflow_cast-quantifier c =
     let inserted = insertion a.store.now (passed a.store.now (ap not c.if-not-passes.false) c.passes.ensures) a.owner a.place.now a.definition a.quantifier a.text.now none in
     record { fits = omega (arith, inserted.code) }
 
+pub invariant_of-change : goal.invariant_of-change
+invariant_of-change c =
+    let a = c.args in
+    let none = sym c.in_ok-gap.ensures.0 in
+    let inserted = insertion a.store.now (passed a.store.now (ap not c.if-not-passes.false) c.passes.ensures) a.owner a.place.now a.definition a.quantifier a.text.now none in
+    let place = c.in_ok-gap.ensures.1 in
+    record { fits = asks inserted.fits (Insert _ a.definition) (edit_same inserted c.from.ensures) place }
+
 pub edit_model-requires : goal.edit_model-requires
 edit_model-requires c =
     let a = c.args in
     let none = sym c.in_ok-gap.ensures.0 in
     let inserted = insertion a.store.now (passed a.store.now (ap not c.if-not-passes.false) c.passes.ensures) a.owner a.place.now a.definition a.quantifier a.text.now none in
-    let place = c.in_ok-gap.ensures.1 in (
-      asks inserted.fits (Insert _ a.definition) (edit_same inserted c.from.ensures) place,
-      inserted.text,
-      inserting_sized inserted _ _ c.inserting_plan-plan.ensures,
-    )
+    (inserted.text, inserting_sized inserted _ _ c.inserting_plan-plan.ensures)
 
 pub returns : goal.returns
 returns c =

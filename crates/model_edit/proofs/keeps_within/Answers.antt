@@ -7,17 +7,17 @@ use Rattle.model_edit.proofs.keeps_within.Goals as goal
 
 pub returns-then-p-gt-MAX_PARTICLES : goal.returns-then-p-gt-MAX_PARTICLES
 returns-then-p-gt-MAX_PARTICLES c =
-    keeps_not c.requires.0 c.requires.1 c.if-p-gt-MAX_PARTICLES.true
+    keeps_not c.args.change.now.fits c.requires c.if-p-gt-MAX_PARTICLES.true
 
-pub own_part-requires : goal.own_part-requires
-own_part-requires c =
-    owner_low c.requires.0
+pub own_part-part-requires : goal.own_part-part-requires
+own_part-part-requires c =
+    owner_low c.args.change.now.fits
 
 pub is_within-requires : goal.is_within-requires
 is_within-requires c =
-    still_within c.requires.0 c.own_part.ensures
+    still_within c.args.change.now.fits c.own_part-part.ensures
 
 pub returns : goal.returns
 returns c =
-    keeps c.requires.0 c.own_part.ensures c.requires.1
+    keeps c.args.change.now.fits c.own_part-part.ensures c.requires
     (omega (arith, c.if-p-gt-MAX_PARTICLES.false)) c.is_within.ensures

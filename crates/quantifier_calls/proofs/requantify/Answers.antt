@@ -54,17 +54,21 @@ new_plan-plan-requires c =
     let place = c.in_ok-found.ensures.1 in
     (given_stands place c.own_part-part.ensures given, owner_fits given.fits)
 
+pub invariant_of-change : goal.invariant_of-change
+invariant_of-change c =
+    let a = c.args in
+    let none = sym c.in_ok-found.ensures.0 in
+    let given = conditions-given a.store.now (passed a.store.now (ap not c.if-not-passes.false) c.passes.ensures) a.owner a.place.now a.quantifier a.text.now a.group none in
+    let place = c.in_ok-found.ensures.1 in
+    record { fits = edits_there given.fits place c.from-new.ensures }
+
 pub edit_model-requires : goal.edit_model-requires
 edit_model-requires c =
     let a = c.args in
     let none = sym c.in_ok-found.ensures.0 in
     let given = conditions-given a.store.now (passed a.store.now (ap not c.if-not-passes.false) c.passes.ensures) a.owner a.place.now a.quantifier a.text.now a.group none in
     let place = c.in_ok-found.ensures.1 in
-    let new = c.from-new.ensures in (
-      edits_there given.fits place new,
-      given.value,
-      given_sized place c.own_part-part.ensures new a.group given c.new_plan-plan.ensures,
-    )
+    (given.value, given_sized place c.own_part-part.ensures c.from-new.ensures a.group given c.new_plan-plan.ensures)
 
 pub returns : goal.returns
 returns c =

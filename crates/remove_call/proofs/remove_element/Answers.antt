@@ -43,13 +43,17 @@ removing_plan-plan-requires c =
     let place = c.in_ok-element.ensures.1 in
     place_low (asks element.fits Remove refl place)
 
-pub edit_model-requires : goal.edit_model-requires
-edit_model-requires c =
+pub invariant_of-change : goal.invariant_of-change
+invariant_of-change c =
     let a = c.args in
     let none = sym c.in_ok-element.ensures.0 in
     let element = remove_fits a.store.now (passed a.store.now (ap not c.if-not-passes.false) c.passes.ensures) a.owner a.place.now none in
     let place = c.in_ok-element.ensures.1 in
-    (asks element.fits Remove refl place, none_value (width_of a.store.now), removing_sized _ _ c.removing_plan-plan.ensures)
+    record { fits = asks element.fits Remove refl place }
+
+pub edit_model-requires : goal.edit_model-requires
+edit_model-requires c =
+    (none_value (width_of c.args.store.now), removing_sized _ _ c.removing_plan-plan.ensures)
 
 pub returns : goal.returns
 returns c =

@@ -29,10 +29,7 @@ use Rattle.change_laws.proofs.Conditions.{not_past, unmet}
 use Rattle.change_laws.proofs.FormLaws.{definition_found, owner_below}
 use Rattle.change_laws.proofs.ModelAfter.{brings, Placed, placed_sound, placed_names, placed_insert, placed_remove, placed_quantify, placed_quantify_group, placed_convert, placed_flatten}
 use Rattle.change_laws.proofs.Replacing.{distinct_last, Joins, old_good, old_joins, replaced, removed, added}
-use borrow.Author.Tests.{not-false}
-
-false_not : (b : Bool) → b ≡ false → b ≡ true → ⊥
-false_not b e t = false≢true (sym e ∙ t)
+use borrow.Author.Tests.{not-false, both_ways}
 
 -- ---- change 1: a definition with no members
 empty_model : (k : ℕ) → model_of (content_of k done) ≡ done
@@ -143,7 +140,7 @@ module _ (room : ℕ) (s : Store) (ok : well_formed (value_width s.version) s.fo
       let n : Bytes = name_at_index i s.form in
       let (in_models, inDocs) = or_split (any (λ (d : Definition). member bytes n (names (members d))) s.form) _ used in
       removed w s.form ok i (not_past i s.form known)
-      (λ d m k. false_not (any (λ (d : Definition). member bytes n (names (members d))) s.form) in_models
+      (λ d m k. both_ways (any (λ (d : Definition). member bytes n (names (members d))) s.form) in_models
       ((any_test (λ (d : Definition). member bytes n (names (members d))) s.form).1 (d, m, (member_test bytes n (names (members d))).1 k)))
 
   after_insert : (o : ℕ) (p : List ℕ) (i q : ℕ) (t : Bytes) → refusal room (insert_element o p i q t) s ≡ 0 → well_formed w (form_after (insert_element o p i q t) s.form) ≡ true
@@ -157,8 +154,8 @@ module _ (room : ℕ) (s : Store) (ok : well_formed (value_width s.version) s.fo
       model_edited w s.form ok o (not_past o s.form ownerKnown) (insert (quantifier_of q) n) p (placed_insert room s o p i q t a)
       (λ m j. rw (Memᴰ.eq_of_singleton j) (record {
         known = ap is_there (definition_found i s.form ((well_formed_lem w s.form).0 ok).names (not_past i s.form newKnown));
-        other = λ e. false_not (same n owner.name) other (bytes.same← n owner.name e);
-        straight = λ r. false_not (reaches_in s.form n owner.name) straight ((reaches_test s.form n owner.name).1 r);
+        other = λ e. both_ways (same n owner.name) other (bytes.same← n owner.name e);
+        straight = λ r. both_ways (reaches_in s.form n owner.name) straight ((reaches_test s.form n owner.name).1 r);
       }))
 
   -- 4 to 8 bring no name
@@ -177,7 +174,7 @@ module _ (room : ℕ) (s : Store) (ok : well_formed (value_width s.version) s.fo
       table_replaced w s.form ok o below (λ t. t ++ new_attribute n k v ∷ [])
       (rw (map-append attribute_name table (new_attribute n k v ∷ []))
       (distinct_last (map attribute_name table) n g.attribute_names
-      (λ m. false_not (member bytes n (map attribute_name table)) new ((member_test bytes n (map attribute_name table)).1 m))))
+      (λ m. both_ways (member bytes n (map attribute_name table)) new ((member_test bytes n (map attribute_name table)).1 m))))
       (λ b m. ⊎_elim (g.attributes b) (λ i. ap (is_attribute_of w) (Memᴰ.eq_of_singleton i) ∙ right) (Memᴰ.append_cases table m))
 
   after_drop : (x : Option Owned) (i : ℕ) → attribute_at i s.form ≡ x → well_formed w (drop_owned x s.form) ≡ true

@@ -2,6 +2,7 @@
 -- separators; by induction on the members.
 use Prim.Native.Nat.{ℕ, zero, suc, ◌+◌}
 use native.Mathlib.Omega.{arith}
+use native.Mathlib.Numerals.{one-add}
 use mathlib.Core.Path.{◌≡◌, refl, ap, ◌∙◌}
 use mathlib.Core.Bool.{true, false}
 use mathlib.Core.List.{[], ◌∷◌, ◌++◌}
@@ -185,9 +186,6 @@ grouped_last k ms rest q t e f s h =
     ∙ grouped_end (code_by 1 k rest) (1 + how_many rest) (mark_of q ++ t)
     ∙ (λ i. record { kind = e i; count = f i; mark = mark_code_lem q t s i })
 
-one_more : (n : ℕ) → 1 + n ≡ suc n
-one_more n = omega arith
-
 lone_element : (k : GroupKind) (q : Quantifier) (n : Bytes) (rest : Members Bytes) → code_by 1 k rest ≡ group_code (canonical_kind k (el q n rest))
 lone_element k q n done = refl
 lone_element k q n (el q' n' rest) = refl
@@ -208,11 +206,11 @@ group_seen_lem k (el p n rest) q t o h s =
     let r : Bytes = 41 ∷ (mark_of q ++ t) in
     ap (grouped_from 0 1 1) (element_put k [] p n rest r)
     ∙ grouped_element 0 1 1 n p (put_tokens (member_tokens k (separator k) rest) r) a
-    ∙ grouped_last k (el p n rest) rest q t (lone_element k p n rest) (one_more (how_many rest)) s b
+    ∙ grouped_last k (el p n rest) rest q t (lone_element k p n rest) (one-add (how_many rest)) s b
 group_seen_lem k (group p j ms rest) q t o h s =
     let a = all_left is_name (names ms) (names rest) h in
     let b = all_right is_name (names ms) (names rest) h in
     let r : Bytes = 41 ∷ (mark_of q ++ t) in
     ap (grouped_from 0 1 1) (group_put k [] p j ms rest r)
     ∙ grouped_inner 1 1 p j ms (put_tokens (member_tokens k (separator k) rest) r) a
-    ∙ grouped_last k (group p j ms rest) rest q t (lone_group k p j ms rest) (one_more (how_many rest)) s b
+    ∙ grouped_last k (group p j ms rest) rest q t (lone_group k p j ms rest) (one-add (how_many rest)) s b

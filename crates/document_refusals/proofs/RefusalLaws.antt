@@ -13,8 +13,6 @@ use Rattle.rules.specs.contracts.Kind.{the_type}
 use Rattle.rules.specs.Kinds.{kind_by, kind_number}
 use Rattle.rules.proofs.KindLaws.{kind_test}
 use Rattle.rules.specs.declared.Refusal.{Refusal}
-use Rattle.rules.specs.declared.Refusal.TheVariants.{BadStore, BadName, BadValue, BadCode, Taken, Unknown, NoRow, NoPlace, WrongKind, InUse, Round}
-use Rattle.rules.specs.declared.Refusal.TheVariants.{Default, OffSpine, Grouping, NoMatch, Ceiling, Serials, Buffer, BadText}
 use Rattle.rules.specs.Given.{refusal_number, number_given}
 use Rattle.rules.specs.Bytes.{Bytes}
 use Rattle.rules.specs.Store.{Content, empty, pcdata, complex, Definition, Row}
@@ -38,28 +36,6 @@ other_kind_is k j e h z = false≢true (sym (ap not (kind_test k j ∙ eq-eqb _ 
 
 pub same_kind_is : (k j : Kind) {b : Bool} → b ≡ not (sameb the_type k j) → b ≡ false → kind_number k ≡ kind_number j
 same_kind_is k j e h = eqb-true _ _ (sym (kind_test k j) ∙ not-false _ (sym e ∙ h))
-
--- a refusal has a number
-pub some_number : (r : Refusal) → refusal_number r ≡ 0 → ⊥
-some_number BadStore e = absurd (omega arith)
-some_number BadName e = absurd (omega arith)
-some_number BadValue e = absurd (omega arith)
-some_number BadCode e = absurd (omega arith)
-some_number Taken e = absurd (omega arith)
-some_number Unknown e = absurd (omega arith)
-some_number NoRow e = absurd (omega arith)
-some_number NoPlace e = absurd (omega arith)
-some_number WrongKind e = absurd (omega arith)
-some_number InUse e = absurd (omega arith)
-some_number Round e = absurd (omega arith)
-some_number Default e = absurd (omega arith)
-some_number OffSpine e = absurd (omega arith)
-some_number Grouping e = absurd (omega arith)
-some_number NoMatch e = absurd (omega arith)
-some_number Ceiling e = absurd (omega arith)
-some_number Serials e = absurd (omega arith)
-some_number Buffer e = absurd (omega arith)
-some_number BadText e = absurd (omega arith)
 
 -- the number of the refusal where there is nothing
 pub refused_number : {A : Type 0} {o : Option A} (r : Refusal) {e : Refusal} → o ≡ None → Err e ≡ ok_or o r → refusal_number e ≡ refusal_number r

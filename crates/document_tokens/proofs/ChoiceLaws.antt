@@ -5,7 +5,7 @@ use mathlib.Core.List.{List, [], ◌∷◌}
 use Prim.Native.Nat.{ℕ, zero, suc, ◌-◌, ◌<◌, ◌≤◌}
 use native.Mathlib.Omega.{arith}
 use native.Mathlib.Numerals.{sub-one}
-use borrow.Author.Tests.{eq-eqb, ne_eqb, lt-ltb, le-ltb}
+use borrow.Author.Tests.{not-true, not-false, eq-eqb, ne_eqb, lt-ltb, le-ltb}
 use lib.Dec.{eqb, ltb}
 use lib.ListN.{length, get_or}
 use Rattle.rules.specs.Bytes.{Bytes, ascii}
@@ -43,21 +43,12 @@ stack_none zero a h = refl
 stack_none (suc d) a h = absurd (omega arith)
 
 -- ---- the token
--- the test that something begins
-begins_so : (s : Bool) → not s ≡ true → s ≡ false
-begins_so true z = absurd (false≢true z)
-begins_so false z = refl
-
-begins_not : (s : Bool) → not s ≡ false → s ≡ true
-begins_not true z = refl
-begins_not false z = absurd (false≢true (sym z))
-
 module _ (f : Declared) (w : ℕ) (opened : List ℕ) (txt : Bytes) {s : Bool} (e : s ≡ starts_with (ascii "</") txt) where
   -- an element begins, unless too many are opened
   begins : (tag : Bool) → (not tag && not s) ≡ true → token_at f w opened tag txt ≡ out_of_tag f txt opened false (ltb (length opened) 255)
   unfolding token_at
   begins true b = absurd (false≢true b)
-  begins false b = ap (λ (a : Bool). out_of_tag f txt opened a (ltb (length opened) 255)) (sym e ∙ begins_so s b)
+  begins false b = ap (λ (a : Bool). out_of_tag f txt opened a (ltb (length opened) 255)) (sym e ∙ not-true s b)
 
   pub begins_element : (tag : Bool) → (not tag && not s) ≡ true → length opened < 255 → token_at f w opened tag txt ≡ element_token f txt
   begins_element tag b h = begins tag b ∙ ap (out_of_tag f txt opened false) (lt-ltb (length opened) 255 h)
@@ -69,7 +60,7 @@ module _ (f : Declared) (w : ℕ) (opened : List ℕ) (txt : Bytes) {s : Bool} (
   pub goes_nowhere : (tag : Bool) → (not tag && not s) ≡ false → opened ≡ [] → token_at f w opened tag txt ≡ no_token
   unfolding token_at
   goes_nowhere true b h = ap (of_tag f w txt) h
-  goes_nowhere false b h = ap₂ (λ (a : Bool) (l : List ℕ). out_of_tag f txt l a (ltb (length opened) 255)) (sym e ∙ begins_not s b) h
+  goes_nowhere false b h = ap₂ (λ (a : Bool) (l : List ℕ). out_of_tag f txt l a (ltb (length opened) 255)) (sym e ∙ not-false s b) h
 
   pub goes_on : (tag : Bool) {o : ℕ} {others : List ℕ} → tag ≡ true → opened ≡ o ∷ others → token_at f w opened tag txt ≡ tag_token f w o txt
   unfolding token_at
@@ -79,4 +70,4 @@ module _ (f : Declared) (w : ℕ) (opened : List ℕ) (txt : Bytes) {s : Bool} (
   pub goes_to_end : (tag : Bool) {o : ℕ} {others : List ℕ} → (not tag && not s) ≡ false → tag ≡ false → opened ≡ o ∷ others → token_at f w opened tag txt ≡ end_token f o (length others) txt
   unfolding token_at
   goes_to_end true b t h = absurd (false≢true (sym t))
-  goes_to_end false b t h = ap₂ (λ (a : Bool) (l : List ℕ). out_of_tag f txt l a (ltb (length opened) 255)) (sym e ∙ begins_not s b) h
+  goes_to_end false b t h = ap₂ (λ (a : Bool) (l : List ℕ). out_of_tag f txt l a (ltb (length opened) 255)) (sym e ∙ not-false s b) h

@@ -1,6 +1,6 @@
 -- What the code tells of a token, by the tests that it made.
 use mathlib.Core.Path.{◌≡◌, refl, sym, ap, ap₂, ◌∙◌}
-use mathlib.Core.Bool.{Bool, true, false, ◌&&◌}
+use mathlib.Core.Bool.{Bool, true, false, ◌&&◌, and-false}
 use mathlib.Core.Option as maybe
 use mathlib.Core.Option.{none, some}
 use Rattle.std.specs.Prelude.{Option, None, Some}
@@ -66,11 +66,6 @@ tells_beside {t} (Some k) v e p =
       told = record { size_is = a.size_is; sort_is = a.sort_is; index_is = a.index_is; length_is = a.length_is; value_is = ap (λ (j : ℕ). take j v) z ∙ sym e };
       long = refl;
     }
-
--- ---- tests
-and_false : (b : Bool) → (b && false) ≡ false
-and_false true = refl
-and_false false = refl
 
 -- ---- an end tag
 -- what comes after its name
@@ -162,7 +157,7 @@ module _ (txt : Bytes) {rest raw : Bytes} {n : ℕ} (r : rest ≡ drop 1 txt) (z
   pub text_none : {w : ℕ} {value v' : Bytes} → ValueRead w raw value None v' → Tells (text_token w txt) value None v'
   text_none {w} v =
       tells_none (text_token w txt)
-      (ap (λ (b : Bool). eqb (first_byte txt) 62 && b) (sym (v.is ∙ ap (λ (l : Bytes). short_value w (unescaped 0 l)) raw_text)) ∙ and_false (eqb (first_byte txt) 62)) v.long
+      (ap (λ (b : Bool). eqb (first_byte txt) 62 && b) (sym (v.is ∙ ap (λ (l : Bytes). short_value w (unescaped 0 l)) raw_text)) ∙ and-false (eqb (first_byte txt) 62)) v.long
 
   pub text_told : {w m : ℕ} {value v' : Bytes} {x : ℕ} → ValueRead w raw value (Some m) v' → x ≡ get_or txt 0 0 → x ≡ 62
       → Tells (text_token w txt) value (Some (record { size = 1 + n; sort = Some Text; index = 0; length = m })) v'
@@ -200,7 +195,7 @@ module _ (txt : Bytes) {rest front : Bytes} {raw : ℕ} (r : rest ≡ drop 2 txt
         is = sym
             (ap (λ (b : Bool). starts_with (ascii "=\"") txt && (b && short_value w (unescaped 0 (quoted_raw txt))))
             (ne_eqb (first_byte (after_while no_quote (drop 2 txt))) 34 (λ e. h (y ∙ quote_at ∙ e)))
-            ∙ and_false (starts_with (ascii "=\"") txt));
+            ∙ and-false (starts_with (ascii "=\"") txt));
         told = tt;
         long = refl;
       }
@@ -212,8 +207,8 @@ module _ (txt : Bytes) {rest front : Bytes} {raw : ℕ} (r : rest ≡ drop 2 txt
         is = sym
             (ap (λ (b : Bool). starts_with (ascii "=\"") txt && (eqb (first_byte (after_while no_quote (drop 2 txt))) 34 && b))
             (sym (v.is ∙ ap (λ (l : Bytes). short_value w (unescaped 0 l)) front_is))
-            ∙ ap (λ (b : Bool). starts_with (ascii "=\"") txt && b) (and_false (eqb (first_byte (after_while no_quote (drop 2 txt))) 34))
-            ∙ and_false (starts_with (ascii "=\"") txt));
+            ∙ ap (λ (b : Bool). starts_with (ascii "=\"") txt && b) (and-false (eqb (first_byte (after_while no_quote (drop 2 txt))) 34))
+            ∙ and-false (starts_with (ascii "=\"") txt));
         told = tt;
         long = v.long;
       }
@@ -287,7 +282,7 @@ module _ (bs : Bytes) (w o : ℕ) (txt : Bytes) {rest name : Bytes} {n : ℕ} (r
     attribute_unquoted {value} {v'} q =
         let none : false ≡ is_quoted w (after_while in_name (drop 1 txt)) = q.is ∙ ap (is_quoted w) left in
         tells_none (attribute_token (declared_in bs) w o txt)
-        (sym exact_is ∙ ap (λ (b : Bool). ltb place (length (bodies_of bs).attributes) && b) (sym none) ∙ and_false (ltb place (length (bodies_of bs).attributes))) q.long
+        (sym exact_is ∙ ap (λ (b : Bool). ltb place (length (bodies_of bs).attributes) && b) (sym none) ∙ and-false (ltb place (length (bodies_of bs).attributes))) q.long
 
     module _ {value v' : Bytes} {k : Quoted} (q : Quotes w tail value (Some k) v') where
       quoted_so : QuoteTold (after_while in_name (drop 1 txt)) k.raw k.length v'

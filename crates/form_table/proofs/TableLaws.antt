@@ -10,6 +10,7 @@ use borrow.Author.Tests.{not-true, not-false, le-ltb, eqb-true, eqb-false, ne_eq
 use lib.Dec.{eqb, ltb}
 use lib.ListN.{length, get_or, set, length-set}
 use lib.Seq.{get_or-set_same, get_or-set_other}
+use Rattle.std.proofs.lemmas.Bool.{not_from_false}
 use Rattle.rules.specs.Bytes.{Bytes}
 use Rattle.rules.specs.Model.{Members}
 use Rattle.rules.proofs.Words.{same_truth}
@@ -181,10 +182,7 @@ module _ (f : Form) (t : List ℕ) (m : Modelled f f.definition_count t) (i : �
       e ∙ (m.line i h).ends_is (last - 1) (omega (arith, z)) ∙ ap (finishes ms) u
 
 -- ---- attributes, looked up
-not_has : (b : Bool) → b ≡ false → not b ≡ true
-not_has b e = rw e
-
 pub none_spares : (s from to : ℕ) (b : Bool) → ((b ≡ true) ↔ ((k : ℕ) → from ≤ k → k < to → has s k ≡ false)) → b ≡ every (λ j. not (has s j)) to from
 none_spares s from to b e =
-    same_truth b (every (λ j. not (has s j)) to from) (λ z. every← (λ j. not (has s j)) to from (λ k h l. not_has (has s k) (e.0 z k h l)))
+    same_truth b (every (λ j. not (has s j)) to from) (λ z. every← (λ j. not (has s j)) to from (λ k h l. not_from_false (has s k) (e.0 z k h l)))
     (λ z. e.1 (λ k h l. has-not (has s k) (every→ (λ j. not (has s j)) to from z k h l)))

@@ -230,7 +230,7 @@ module _ (h : Holder) (ms : Members ℕ) where
   last_spot false (suc n) = nth_spot n (walk ms h.depth n)
 
 -- ---- a number that picks a group
-code_group : (k : GroupKind) (n : ℕ) → what_of (group_code k) n ≡ Group k n
+pub code_group : (k : GroupKind) (n : ℕ) → what_of (group_code k) n ≡ Group k n
 code_group Sequence n = refl
 code_group Choice n = refl
 

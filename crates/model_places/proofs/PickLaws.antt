@@ -29,7 +29,7 @@ use Rattle.model.specs.Members.{particles_of}
 use Rattle.model.specs.Places.{Particles, no_particle, place_in}
 use Rattle.model.specs.Positions.{element_particle, group_particle, spread, leading, trailing, level}
 use Rattle.model.proofs.ParticleLaws.{length_particles, particle_at_lem}
-use Rattle.model.proofs.PositionLaws.{spread_plug, length_leading, many_named}
+use Rattle.model.proofs.PositionLaws.{code_group, spread_plug, length_leading, many_named}
 use Rattle.form_index.specs.Reading.{definition_in, particles_before, model_part}
 use Rattle.layout.specs.Bodies.{shape_of, particle_body, definitions_in, particles_in}
 use Rattle.store_laws.proofs.Encoded.{encoded}
@@ -109,10 +109,6 @@ module _ {bs : Bytes} {o : ℕ} {i : Bool} {place : List ℕ} {h : Holder} {p : 
         sym (particle_at_lem p (part_in bs o) one_there)
         ∙ (ap (λ (n : ℕ). get_or (particles_of (part_in bs o)) n no_particle) (sym z) ∙ sym (get_or-drop p (particles_of (part_in bs o)) 0 no_particle))
         ∙ ap (λ (l : Particles). get_or l 0 no_particle) e
-
-code_group : (k : GroupKind) (n : ℕ) → what_of (group_code k) n ≡ Group k n
-code_group Sequence n = refl
-code_group Choice n = refl
 
 -- what the code reads there
 abbrev pub member_in : Bytes → ℕ → ℕ → Particle

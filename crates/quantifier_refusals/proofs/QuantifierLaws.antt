@@ -28,10 +28,6 @@ use Rattle.change_laws.specs.FirstCondition.{Gives}
 use Rattle.change_laws.proofs.FirstCondition.{gives_hit, gives_next, gives_none}
 use Rattle.instance_search.specs.Instances.{has_instance}
 use Rattle.std.specs.Prelude.{Option as Maybe, Some}
-use Rattle.rules.specs.Given.{refusal_number}
-use Rattle.rules.specs.declared.Refusal.{Refusal}
-use Rattle.rules.specs.declared.Refusal.TheVariants.{BadStore, BadName, BadValue, BadCode, Taken, Unknown, NoRow, NoPlace, WrongKind, InUse, Round}
-use Rattle.rules.specs.declared.Refusal.TheVariants.{Default, OffSpine, Grouping, NoMatch, Ceiling, Serials, Buffer, BadText}
 use Rattle.model.specs.declared.What.{What}
 use Rattle.model.specs.declared.What.TheVariants.{Element, Group}
 use Rattle.model_places.specs.declared.Picked.{Picked}
@@ -107,28 +103,6 @@ module _ (exists spine : Bool) (old new : Quantifier) (t : Bytes) (is_group : Bo
 
     pub at_exists : not b ≡ false → {x : ℕ} → x ≡ first (13 if exists ∷ []) → Gives x (quantifier_tests exists spine old new t is_group)
     at_exists k z = gives_next (gain_is h) (record { is = z ∙ ap (λ (v : Bool). first (13 if v ∷ [])) (sym (and_held exists _ (sym f ∙ not-false b k))) })
-
--- a refusal has a number
-pub some_refusal : (r : Refusal) → refusal_number r ≡ 0 → ⊥
-some_refusal BadStore e = absurd (omega (arith, e))
-some_refusal BadName e = absurd (omega (arith, e))
-some_refusal BadValue e = absurd (omega (arith, e))
-some_refusal BadCode e = absurd (omega (arith, e))
-some_refusal Taken e = absurd (omega (arith, e))
-some_refusal Unknown e = absurd (omega (arith, e))
-some_refusal NoRow e = absurd (omega (arith, e))
-some_refusal NoPlace e = absurd (omega (arith, e))
-some_refusal WrongKind e = absurd (omega (arith, e))
-some_refusal InUse e = absurd (omega (arith, e))
-some_refusal Round e = absurd (omega (arith, e))
-some_refusal Default e = absurd (omega (arith, e))
-some_refusal OffSpine e = absurd (omega (arith, e))
-some_refusal Grouping e = absurd (omega (arith, e))
-some_refusal NoMatch e = absurd (omega (arith, e))
-some_refusal Ceiling e = absurd (omega (arith, e))
-some_refusal Serials e = absurd (omega (arith, e))
-some_refusal Buffer e = absurd (omega (arith, e))
-some_refusal BadText e = absurd (omega (arith, e))
 
 -- two tests that are the same, or not
 pub same_test : (a b : Bool) → not (beq a b) ≡ false → a ≡ b

@@ -6,6 +6,7 @@ use mathlib.Core.Bool.{Bool, true, false, ◌&&◌, false≢true}
 use mathlib.Core.Option.{Option, none, some, none-ne-some}
 use mathlib.Core.List.Memᴰ
 use mathlib.Core.List.{List, [], ◌∷◌, ◌++◌, map, Memᴰ}
+use Rattle.std.proofs.lemmas.Bool.{false_from_ne_true}
 use Rattle.rules.specs.Bytes.{Bytes, same, bytes, same_eq, same_refl, all, is_none}
 use Rattle.rules.specs.Model.{names, Distinct}
 use Rattle.rules.specs.Automaton.{accepts}
@@ -54,10 +55,6 @@ in_order_lem [] table o x m = absurd (Memᴰ.not-nil m)
 in_order_lem (y ∷ xs) [] o x m = absurd o
 in_order_lem (y ∷ xs) (z ∷ table) (inl (e, o)) x m = ⊎_elim (λ q. Memᴰ.head (q ∙ e)) (λ n. Memᴰ.tail (in_order_lem xs table o x n)) (Memᴰ.cases_cons m)
 in_order_lem (y ∷ xs) (z ∷ table) (inr o) x m = Memᴰ.tail (in_order_lem (y ∷ xs) table o x m)
-
-lacked : (b : Bool) → (b ≡ true → ⊥) → b ≡ false
-lacked true f = absurd (f refl)
-lacked false f = refl
 
 module _ (version : ℕ) (a : Attribute) (table : List Attribute) where
   -- rows of the other attributes alone
@@ -209,7 +206,7 @@ unfolding strip
 strip← version [] [] back d h x = refl
 strip← version [] (r ∷ front) back d h x = absurd x.owned
 strip← version (a ∷ table) [] back (new, d) h x =
-    strip_past version a table back (begins_none a.name back h) (lacked (must_be_present version a.sort) (λ q. Memᴰ.not-nil (x.present a (Memᴰ.head refl) q)))
+    strip_past version a table back (begins_none a.name back h) (false_from_ne_true (must_be_present version a.sort) (λ q. Memᴰ.not-nil (x.present a (Memᴰ.head refl) q)))
     ∙ strip← version table [] back d h (rows_back version a table [] tt x)
 strip← version (a ∷ table) (r ∷ front) back (new, d) h x = by x.owned (strip← version table)
   where
@@ -224,7 +221,7 @@ strip← version (a ∷ table) (r ∷ front) back (new, d) h x = by x.owned (str
         ∙ f front back d h (rows_take version a table r front new e o x)
     by (inr o) f =
         strip_past version a table (r ∷ (front ++ back)) (begins_other a.name r (front ++ back) is (λ e. out (Memᴰ.head e)))
-        (lacked (must_be_present version a.sort) (λ q. out (x.present a (Memᴰ.head refl) q)))
+        (false_from_ne_true (must_be_present version a.sort) (λ q. out (x.present a (Memᴰ.head refl) q)))
         ∙ f (r ∷ front) back d h (rows_back version a table (r ∷ front) o x)
       where
         out : Memᴰ a.name (map name_of (r ∷ front)) → ⊥

@@ -1,6 +1,7 @@
 pub mod Children
 pub mod ChildRows
 pub mod Words
+pub mod GivenLaws
 pub mod AroundLaws
 pub mod Auto
 pub mod AutoList

@@ -6,6 +6,8 @@ use mathlib.Core.Bool.{Bool, true, false, not, ◌&&◌, ◌||◌, false≢true}
 use mathlib.Core.List.{List, [], ◌∷◌, cons≢nil, head-eq_of_cons-eq, tail-eq_of_cons-eq}
 use lib.Dec.{ltb}
 use borrow.Author.Tests.{ltb-true, ltb-false}
+pub use mathlib.Core.Logic.{⊎_map as either}
+pub use Rattle.std.proofs.lemmas.Bool.{and_parts as and_split, or_parts as or_split, or_from as or_both, and_right as and_off}
 pub use Rattle.rules.specs.Bytes.{and_both}
 use Rattle.rules.specs.Language.{Language, Then}
 
@@ -39,21 +41,6 @@ pub and_held : (a b : Bool) → b ≡ true → (a && b) ≡ a
 and_held true b e = e
 and_held false b e = refl
 
-pub and_split : (a b : Bool) → (a && b) ≡ true → (a ≡ true) × (b ≡ true)
-and_split true b e = (refl, e)
-and_split false b e = absurd (false≢true e)
-
-pub or_split : (a b : Bool) → (a || b) ≡ false → (a ≡ false) × (b ≡ false)
-or_split true b e = absurd (false≢true (sym e))
-or_split false b e = (refl, e)
-
-pub or_both : (a b : Bool) → a ≡ false → b ≡ false → (a || b) ≡ false
-or_both a b e f = rw (e, f)
-
-pub and_off : (a b : Bool) → b ≡ false → (a && b) ≡ false
-and_off true b e = e
-and_off false b e = refl
-
 -- a test that is another one
 pub test_is : {a b c : Bool} → a ≡ b → a ≡ c → b ≡ c
 test_is e h = sym e ∙ h
@@ -74,7 +61,3 @@ below_or a b = by (ltb a b) refl
     by : (c : Bool) → ltb a b ≡ c → (a < b) ⊎ (b ≤ a)
     by true q = inl (ltb-true a b q)
     by false q = inr (ltb-false a b q)
-
-pub either : {A B C D : Type 0} → (A → C) → (B → D) → A ⊎ B → C ⊎ D
-either f g (inl x) = inl (f x)
-either f g (inr y) = inr (g y)

@@ -14,7 +14,7 @@ use Rattle.rules.specs.declared.Refusal.{Refusal}
 use Rattle.rules.specs.declared.Refusal.TheVariants.{BadStore}
 use Rattle.rules.specs.Given.{refusal_number, AnswersBy}
 use Rattle.store_laws.specs.Stores.{store_in}
-use Rattle.store_limits.proofs.GivenLaws.{refusal_some}
+use Rattle.rules.proofs.GivenLaws.{refusal_some}
 use Rattle.store_writer.specs.Writing.{limited}
 use Rattle.store_laws.proofs.StoreLaws.{holds}
 use Rattle.store_writer.proofs.OutcomeLaws.{outcome_bad, outcome_refused, outcome_limited}

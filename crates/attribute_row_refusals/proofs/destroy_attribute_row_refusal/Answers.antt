@@ -11,7 +11,8 @@ use Rattle.rules.specs.declared.Refusal.TheVariants.{NoRow}
 use Rattle.store_check.proofs.StoreFacts.{Whole, whole}
 use Rattle.document_rows.proofs.ElementFacts.{element_there}
 use Rattle.document_rows.proofs.RowFacts.{row_of}
-use Rattle.document_refusals.proofs.RefusalLaws.{some_number, refused_number}
+use Rattle.rules.proofs.GivenLaws.{refusal_some}
+use Rattle.document_refusals.proofs.RefusalLaws.{refused_number}
 use Rattle.attribute_row_refusals.proofs.AttributeRefusals.{needs_in, drop_early, drop_7, drop_last, known_of, inside}
 use Rattle.attribute_row_refusals.proofs.destroy_attribute_row_refusal.Goals as goal
 
@@ -20,7 +21,7 @@ returns-in_err-i c =
     let a = c.args in
     let p = err_from_is_err_and c.from_residual.result c.from_residual.ensures.1 in
     rw (p.1, p.2)
-    (drop_early a.store.now (whole _ c.requires) a.attribute a.element c.in_err-i.ensures.refused (some_number _)).is
+    (drop_early a.store.now (whole _ c.requires) a.attribute a.element c.in_err-i.ensures.refused (refusal_some _)).is
 
 pub attribute_row_serial-requires : goal.attribute_row_serial-requires
 attribute_row_serial-requires c = row_of _ (whole _ c.requires) c.in_ok-i.ensures.row

@@ -8,7 +8,7 @@ use native.Mathlib.Omega.{arith}
 use Rattle.std.proofs.lemmas.Result.{err_from_is_err_and}
 use Rattle.rules.specs.Refusal.{◌if◌, first}
 use Rattle.store_check.proofs.StoreFacts.{Whole, whole}
-use Rattle.document_refusals.proofs.RefusalLaws.{some_number}
+use Rattle.rules.proofs.GivenLaws.{refusal_some}
 use Rattle.attribute_row_refusals.proofs.AttributeRefusals.{allows_in, set_3, set_early, set_last, known_of, inside}
 use Rattle.attribute_row_refusals.proofs.set_attribute_refusal.Goals as goal
 
@@ -23,7 +23,7 @@ returns-in_err-attribute_refusal c =
     let p = err_from_is_err_and c.from_residual.result c.from_residual.ensures.1 in
     rw (p.1, p.2)
     (set_early a.store.now (whole _ c.requires) a.attribute a.element a.value.now c.width_in-w.ensures
-    c.is_value.ensures (ap not c.if-not-is_value.false) c.in_err-attribute_refusal.ensures.refused (some_number _)).is
+    c.is_value.ensures (ap not c.if-not-is_value.false) c.in_err-attribute_refusal.ensures.refused (refusal_some _)).is
 
 pub value_may-requires : goal.value_may-requires
 value_may-requires c =

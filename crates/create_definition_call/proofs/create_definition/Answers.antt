@@ -11,7 +11,7 @@ use Rattle.lookup.specs.Bodies.{bodies_of}
 use Rattle.rules.specs.Change.{create_definition}
 use mathlib.Core.Path.{refl, sym, ap}
 use lib.ListN.{length}
-use Rattle.store_limits.proofs.GivenLaws.{refusal_some}
+use Rattle.rules.proofs.GivenLaws.{refusal_some}
 use Rattle.std.proofs.lemmas.Result.{err_from_is_err_and}
 use Rattle.create_definition_call.proofs.create_definition.Goals as goal
 

@@ -12,7 +12,8 @@ use Rattle.store_check.proofs.StoreFacts.{Whole, whole}
 use Rattle.document_rows.specs.Finding.{ElementRowAt, fits_at}
 use Rattle.document_rows.proofs.ElementFacts.{element_there, element_absent}
 use Rattle.document_rows.proofs.RowFacts.{row_of}
-use Rattle.document_refusals.proofs.RefusalLaws.{other_kind_is, same_kind_is, kind_read, some_number, refused_number}
+use Rattle.rules.proofs.GivenLaws.{refusal_some}
+use Rattle.document_refusals.proofs.RefusalLaws.{other_kind_is, same_kind_is, kind_read, refused_number}
 use Rattle.document_refusals.proofs.ElementRefusals.{add_early, add_7, add_8, add_15, add_0, other_kind, complex_kind, definition_small}
 use Rattle.document_refusals.proofs.add_element_refusal.Goals as goal
 
@@ -21,7 +22,7 @@ returns-in_err-add_document_refusal c =
     let a = c.args in
     let p = err_from_is_err_and c.from_residual.result c.from_residual.ensures.1 in
     rw (p.1, p.2)
-    (add_early a.store.now (whole _ c.requires) a.parent a.child a.definition a.text.now c.in_err-add_document_refusal.ensures (some_number _)).is
+    (add_early a.store.now (whole _ c.requires) a.parent a.child a.definition a.text.now c.in_err-add_document_refusal.ensures (refusal_some _)).is
 
 pub returns-in_err-i : goal.returns-in_err-i
 returns-in_err-i c =

@@ -9,7 +9,8 @@ use Rattle.rules.specs.Given.{number_given}
 use Rattle.model_places.specs.declared.Picked.{Picked}
 use Rattle.store_check.proofs.StoreFacts.{whole}
 use Rattle.model_places.proofs.PickLaws.{as_none}
-use Rattle.quantifier_refusals.proofs.QuantifierLaws.{some_refusal, same_test, other_test, is_group, requantify_early, requantify_none, requantify_other, requantify_there, picked_placed}
+use Rattle.rules.proofs.GivenLaws.{refusal_some}
+use Rattle.quantifier_refusals.proofs.QuantifierLaws.{same_test, other_test, is_group, requantify_early, requantify_none, requantify_other, requantify_there, picked_placed}
 use Rattle.quantifier_refusals.proofs.requantify_refusal.Goals as goal
 use Rattle.quantifier_refusals.proofs.requantify_refusal.Goals.{in-Element, in-Group}
 
@@ -19,7 +20,7 @@ returns-in_err-new c =
     let p = err_from_is_err_and c.from_residual.result c.from_residual.ensures.1 in
     rw (p.1, p.2) (
       (requantify_early a.store.now (whole _ c.requires) a.owner a.place.now a.quantifier a.text.now
-          c.in_err-new.ensures.0 a.group (some_refusal _)).is,
+          c.in_err-new.ensures.0 a.group (refusal_some _)).is,
       tt,
     )
 

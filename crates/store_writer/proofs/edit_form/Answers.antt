@@ -4,7 +4,7 @@
 use Rattle.layout.proofs.LayoutLaws.{width_within}
 use Rattle.store_laws.proofs.StoreLaws.{holds}
 use Rattle.std.proofs.lemmas.Result.{err_from_is_err_and}
-use Rattle.store_limits.proofs.GivenLaws.{refusal_some}
+use Rattle.rules.proofs.GivenLaws.{refusal_some}
 use mathlib.Core.Path.{refl}
 use Rattle.store_laws.proofs.FormBytesLaws.{form_short}
 use Rattle.store_writer.proofs.EditLaws.{edit_refused, edit_written}

@@ -192,6 +192,7 @@ impl Names for OneName {
 }
 
 /// The facts of the members of depth d that s begins with, in a group of a kind, and of two definition indices.
+// The one place where these become the Facts of the rules: a From would be longer.
 pub fn facts_from(s: &[u8], d: usize, kind: GroupKind, x: usize, y: usize) -> Facts
     requires { d ≤ 256 }
     ensures { result ≡ facts numbers kind (members_from d s.now) x y }

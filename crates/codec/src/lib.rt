@@ -82,6 +82,7 @@ pub fn part(s: &[u8], at: usize, n: usize) -> &[u8]
 }
 
 /// Whether two byte strings are equal.
+// The library's, with the clause in the words of the rules.
 pub fn equal(a: &[u8], b: &[u8]) -> bool
     ensures { result ≡ same a.now b.now }
 {
@@ -108,6 +109,7 @@ pub fn lay(src: &[u8], out: &mut [u8])
 
 // The writers below write as far as out goes and say where the next
 // bytes go, so that writing into an empty buffer measures.
+// So a buffer goes with a place in all writers: a subslice would end where the buffer does.
 
 /// Writes src from `at` on. The free tail of out is lent on.
 pub fn put(src: &[u8], out: &mut [u8], at: usize) -> usize

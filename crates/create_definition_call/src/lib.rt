@@ -9,6 +9,7 @@ ghost use Rattle.rules.specs.Given.{AnswersBy};
 use rules::Refusal;
 
 /// Change 1: creates a definition, the last.
+// The code is a number down to its refusal (4), before which others come.
 pub fn create_definition(
     store: &[u8],
     name: &[u8],

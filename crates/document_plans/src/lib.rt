@@ -1,4 +1,5 @@
 //! The plans of changes 11 to 16, which change documents.
+//! Plans are made of serials, as the rules make them, so that an element is looked for once more here.
 #![tactic(auto)]
 
 ghost use Rattle.std.specs.Prelude.{◌≡◌, true, false, unwrap_or};

@@ -135,7 +135,7 @@ impl Printer<'_> {
         let mut at = start;
         let mut i = from;
         let mut opened = true;
-        // A `while`: a row with those below it is any number of rows.
+        // A `while`: it goes on behind what it wrote; a `for` would look at each row once for each element around it.
         while i < self.rows.count {
             let bytes = self.rows.row(i);
             let d = layout::row_depth(bytes) as usize;

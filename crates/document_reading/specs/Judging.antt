@@ -1,5 +1,5 @@
 -- The rows that the documents of a text say, judged.
-use Rattle.std.specs.Prelude.{ℕ, ◌+◌, ◌≡◌, Bool, true, false, ◌&&◌, List, leb, length}
+use Rattle.std.specs.Prelude.{ℕ, ◌+◌, ◌≡◌, Bool, false, ◌&&◌, List, leb, length}
 use Rattle.std.specs.Prelude as code
 use Rattle.std.specs.Prelude.{is_some, IfSome}
 use Rattle.std.proofs.Math.Option.{Option, none, some}

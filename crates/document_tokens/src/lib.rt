@@ -7,7 +7,7 @@ ghost use Rattle.rules.specs.Decode.{read_attribute};
 ghost use Rattle.lookup.specs.Bodies.{bodies_of};
 ghost use Rattle.declaration_scan.specs.Names.{PlaceIn};
 ghost use Rattle.document_tokens.specs.Tokens.{declared_in, kind_of_definition, attribute_among, element_token, attribute_token, text_token, tag_token, start_end_token, end_token, token_at};
-ghost use Rattle.document_tokens.specs.Telling.{sort_code, FormRoom, stack_of, Tells, ValueRead, Quotes};
+ghost use Rattle.document_tokens.specs.Telling.{FormRoom, stack_of, Tells, ValueRead, Quotes};
 
 use rules::{Kind, RowSort};
 

@@ -1,12 +1,12 @@
 //! The filling of a definition, and of an attribute: the rows that a change makes.
 #![tactic(auto)]
 
-ghost use Rattle.std.specs.Prelude.{◌≡◌, ◌+◌, ◌<◌, ◌≤◌, [], ◌∷◌, length, get_or};
+ghost use Rattle.std.specs.Prelude.{◌≡◌, ◌+◌, ◌<◌, ◌≤◌, length, get_or};
 ghost use Rattle.rules.specs.Decode.{quantifier_of};
 ghost use Rattle.rules.specs.Model.{skips, neutral, nothing, unless, filling};
 ghost use Rattle.model.specs.Members.{members_from};
 ghost use Rattle.layout.specs.Bodies.{Width};
-ghost use Rattle.row_writer.specs.Written.{Room, Written, new_row};
+ghost use Rattle.row_writer.specs.Written.{Room, Written};
 ghost use Rattle.filling.specs.Fillings.{group_filled};
 ghost use Rattle.filling.specs.Parts.{left_out, passed, settled, member_nothing, member_filling, value_in, required_at, required_in, members_read_at};
 ghost use Rattle.filling.specs.Parts.{element_needed, no_element_needed};

@@ -2,7 +2,7 @@
 //! next_children::fill writes and the attributes that it needs.
 #![tactic(auto)]
 
-ghost use Rattle.std.specs.Prelude.{◌≡◌, not, ◌<◌, ◌≤◌, length, get_or, ◌+◌, ◌*◌};
+ghost use Rattle.std.specs.Prelude.{◌≡◌, not, ◌<◌, ◌≤◌, length, ◌+◌, ◌*◌};
 ghost use Rattle.sets.specs.Sets.{has};
 ghost use Rattle.model.specs.Members.{all_members};
 ghost use Rattle.model.specs.Steps.{steps, finishes};
@@ -117,6 +117,7 @@ pub fn may_finish(form: &Form<'_>, sets: &[u64], i: usize, last: usize) -> bool
 
 // ---- attributes, looked up
 /// Whether none of the attributes from `from` up to `to` is needed.
+// It forwards so that its clause says it of attributes, for both callers.
 pub fn spares(needed: u64, from: usize, to: usize) -> bool
     requires { to ≤ 64 }
     ensures { result ≡ every (λ j. not (has needed j)) to from }

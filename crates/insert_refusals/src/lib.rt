@@ -2,7 +2,7 @@
 //! quantifier comes as the `u32` that a caller in C gives, as one that is no code is refused here.
 #![tactic(auto)]
 
-ghost use Rattle.std.specs.Prelude.{◌≡◌, true, not, ◌&&◌, ◌<◌, ◌≤◌};
+ghost use Rattle.std.specs.Prelude.{◌≡◌, true, not, ◌&&◌, ◌<◌};
 ghost use Rattle.rules.specs.declared.GroupKind.TheVariants.{Sequence};
 ghost use Rattle.rules.specs.Decode.{definition_count};
 ghost use Rattle.rules.specs.Given.{number_given};

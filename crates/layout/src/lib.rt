@@ -321,6 +321,7 @@ pub fn next_serial(store: &[u8]) -> usize
     number(store, 4)
 }
 
+// An index is asked to be below it in the clauses: a type of such indices would be made and opened at each call.
 pub fn definition_count(store: &[u8]) -> usize
     ensures { Number (definition_count store.now) result }
 {

@@ -34,6 +34,7 @@ fn put_row_start(sort: u8, depth: u8, index: u32, serial: usize, out: &mut [u8],
 }
 
 // The value of a row, from its length to the end of the row.
+// That a value is no longer than the width is asked in each clause: a type for both would be made at each call.
 fn put_row_end(w: usize, value: &[u8], out: &mut [u8], at: usize) -> usize
     requires { Width w × (at + 4 + w < 9223372036854775808) × (length value.now ≤ w) }
     ensures { Laid (row_end w value.now) out.old at result out.new }

@@ -85,6 +85,7 @@ fn put_value(s: &[u8], width: usize, out: &mut [u8], at: usize) -> usize
 }
 
 /// Writes a definition.
+// That a name fits is asked in the clauses: a type for a short name would be made and opened in one call.
 pub fn put_definition(name: &[u8], kind: Kind, particles: u32, out: &mut [u8], at: usize) -> usize
     requires { (length name.now ≤ name_width) × (at < 1152921504606846976) }
     ensures { Laid (definition_bytes (definition_of name.now (kind_number kind) particles)) out.old at result out.new }
@@ -95,6 +96,7 @@ pub fn put_definition(name: &[u8], kind: Kind, particles: u32, out: &mut [u8], a
 }
 
 /// Writes an attribute.
+// The fields one by one: a struct of them would be written out at each of four calls, and taken apart here.
 pub fn put_attribute(
     w: usize,
     owner: u8,

@@ -10,11 +10,10 @@ use lib.ListN.{length, take, drop, get_or, length-take, length-drop}
 use lib.Seq.{drop-append-add, get_or-drop}
 use Rattle.rules.specs.declared.Quantifier.{Quantifier}
 use Rattle.rules.specs.declared.GroupKind.{GroupKind}
-use Rattle.rules.specs.declared.GroupKind.TheVariants.{Sequence, Choice}
 use Rattle.rules.specs.Bytes.{Bytes}
 use Rattle.rules.specs.Model.{Members, done, el, group, rename, is_done}
 use Rattle.rules.specs.Preorder.{Deep}
-use Rattle.rules.specs.Layout.{header_size, definition_size, particle_size, FlatParticle, how_many, group_code}
+use Rattle.rules.specs.Layout.{header_size, definition_size, particle_size, FlatParticle, how_many}
 use Rattle.rules.specs.Decode.{read_particle, definition_count, particle_count}
 use Rattle.rules.specs.Passing.{passes}
 use Rattle.rules.specs.Place.{Context, Found as Spot, nth, find, rename_around, within, after_members, in_group, present}
@@ -24,7 +23,7 @@ use Rattle.model.specs.declared.Particle.{Particle}
 use Rattle.model.specs.declared.place.Holder.{Holder}
 use Rattle.model.specs.declared.place.Found.{Found}
 use Rattle.std.specs.Prelude.{Option as Maybe, Some, None}
-use Rattle.model.specs.Particle.{what_of, particle_of}
+use Rattle.model.specs.Particle.{particle_of}
 use Rattle.model.specs.Members.{particles_of}
 use Rattle.model.specs.Places.{Particles, no_particle, place_in}
 use Rattle.model.specs.Positions.{element_particle, group_particle, spread, leading, trailing, level}

@@ -81,6 +81,7 @@ fn put_moved(s: &[u8], d: usize, n: usize, deeper: bool, out: &mut [u8], start: 
 }
 
 // ---- from the place on: the particles ys become those after the edit, where d is the depth there
+// Each edit has a function of its own, and these take what the place leaves alike.
 
 fn put_inserted(
     ys: &[u8],

@@ -3,7 +3,7 @@
 //! looked up afterwards.
 #![tactic(auto)]
 
-ghost use Rattle.std.specs.Prelude.{◌≡◌, ◌+◌, ◌<◌, ◌≤◌, length};
+ghost use Rattle.std.specs.Prelude.{◌+◌, ◌<◌, ◌≤◌, length};
 ghost use Rattle.rules.specs.declared.GroupKind.TheVariants.{Sequence};
 ghost use Rattle.rules.specs.Bytes.{numbers};
 ghost use Rattle.rules.specs.Automaton.{facts};

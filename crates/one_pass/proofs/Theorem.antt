@@ -3,18 +3,16 @@
 use Prim.Native.Nat.{ℕ, zero, suc, ◌+◌, ◌*◌, ◌<◌, ◌≤◌}
 use native.Mathlib.Omega.{arith}
 use mathlib.Core.Path.{◌≡◌, refl, ap, sym, ◌∙◌, subst}
-use mathlib.Core.Logic.{◌↔◌}
 use mathlib.Core.Bool.{Bool, true, false, false≢true}
 use mathlib.Core.Option.{Option, none, some}
 use mathlib.Core.List.{[], ◌∷◌}
 use lib.Dec.{eqb}
-use lib.ListN.{length, get_or, set, take, drop}
+use lib.ListN.{get_or, set, take, drop}
 use borrow.Author.Tests.{eqb-true, eqb-false}
 use Rattle.rules.specs.Bytes.{Bytes}
 use Rattle.rules.specs.Preorder.{Deep}
 use Rattle.rules.specs.Layout.{row_size, FlatRow}
 use Rattle.rules.specs.Decode.{read_row, row_count}
-use Rattle.rules.specs.Passing.{passes}
 use Rattle.layout.specs.Bodies.{width_of, tree_rows_in}
 use Rattle.codec.proofs.Numbers.{zeros_read}
 use Rattle.records.specs.Records.{header_fits}
@@ -27,7 +25,7 @@ use Rattle.row_check.specs.Walking.{bytes_before, before_in, FewIn}
 use Rattle.row_check.proofs.WalkLaws.{walk_none, walk_split, came, came_room}
 use Rattle.row_check.proofs.PassLaws.{start_fits}
 use Rattle.row_check.proofs.BeforeLaws.{width_before, few_before}
-use Rattle.store_check.specs.Check.{FormIn, walk_answer, serials_differ}
+use Rattle.store_check.specs.Check.{walk_answer}
 use Rattle.store_check.proofs.StringChecks.{Headed, header, passes_header}
 use Rattle.store_check.proofs.CallLaws.{check_says}
 use Rattle.one_pass.specs.OnePass.{AreBytes, state_after, rows_left, OnePass}

@@ -1,7 +1,7 @@
 -- Paper 02, W3: 'walk the tree rows once for layout and conformity together; only a test that compares rows' serials or
 -- values with each other may walk apart. From the walk's state after any row, of at most 4,096 bytes, the bytes before
 -- the tree body and the rows left give the whole walk's answer. The check gives its yes to the same strings as before.'
-use Rattle.std.specs.Prelude.{ℕ, ◌+◌, ◌*◌, ◌<◌, ◌≤◌, ◌≡◌, ◌↔◌, true, false, length, get_or, drop}
+use Rattle.std.specs.Prelude.{ℕ, ◌+◌, ◌*◌, ◌<◌, ◌≡◌, ◌↔◌, true, false, length, get_or, drop}
 use Rattle.std.proofs.Math.Option.{Option, none, some}
 use Rattle.rules.specs.Bytes.{Bytes}
 use Rattle.rules.specs.Layout.{row_size}

@@ -4,7 +4,7 @@
 
 ghost use Rattle.std.specs.Prelude.{◌≡◌};
 ghost use Rattle.rules.specs.Layout.{sort_code};
-ghost use Rattle.plans.specs.CallPlans.{unmarked, filling_plan, taking_plan, setting_plan, set_attribute_plan};
+ghost use Rattle.plans.specs.CallPlans.{filling_plan, taking_plan, setting_plan, set_attribute_plan};
 ghost use Rattle.plans.specs.AttributeCalls.{add_attribute_plan, destroy_attribute_plan};
 ghost use Rattle.plans.specs.ModelCalls.{cut_takes, gain_filling, insert_element_plan, requantify_plan};
 

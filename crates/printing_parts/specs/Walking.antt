@@ -7,6 +7,7 @@ use Rattle.rules.specs.Preorder.{Deep, build}
 use Rattle.codec.specs.Laid.{Laid}
 
 -- There is room for the text of all records from number i on, 2500 bytes each.
+-- Each of its numbers moves on from call to call, so that no struct holds it.
 pub record TextRoom (end i depth at : ℕ) : Type 0 where
   pub few : end < 4294967296
   pub deep : depth < 257

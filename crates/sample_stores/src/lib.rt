@@ -56,6 +56,7 @@ pub const LEGS: [u8; 644] = [
 ];
 
 // ---- the deepest store
+// Laid byte by byte: it does not lean on the writers of the store.
 
 /// The bytes of the deepest store: 64 definitions in each other, and one document of 64 elements in each other. All but
 /// the last are COMPLEX, with the next one as their only member; the last is EMPTY.

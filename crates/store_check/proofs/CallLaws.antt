@@ -18,7 +18,7 @@ use Rattle.rules.specs.Passing.{passes}
 use Rattle.rules.proofs.Words.{same_truth, and_both, and_split}
 use Rattle.rules.proofs.BooleanLaws.{all_map}
 use Rattle.layout.specs.declared.Shape.{Shape}
-use Rattle.layout.specs.Bodies.{Width, Place, width_of, shape_of, ShapeOf, attributes_start, rows_start, row_body, tree_rows_in}
+use Rattle.layout.specs.Bodies.{Place, width_of, shape_of, ShapeOf, attributes_start, rows_start, row_body, tree_rows_in}
 use Rattle.layout.proofs.LayoutLaws.{by_shape}
 use Rattle.records.specs.Records.{definition_fits, attribute_fits, serial_fits, each_fits, header_fits}
 use Rattle.records.proofs.RecordLaws.{small_of, small_at}

@@ -1,11 +1,10 @@
 -- What is answered where a store is to be left: it is written, or it is too much.
-use Rattle.std.specs.Prelude.{ℕ, ◌<◌, ◌≤◌, not, [], ◌∷◌, ltb, length}
+use Rattle.std.specs.Prelude.{ℕ, not, [], ◌∷◌, ltb, length}
 use Rattle.rules.specs.Bytes.{Bytes}
 use Rattle.rules.specs.Layout.{value_width, FlatStore, flat_bytes}
 use Rattle.rules.specs.WellFormed.{within_ceilings, highest_number}
 use Rattle.rules.specs.Refusal.{◌if◌, first}
 use Rattle.rules.specs.Outcome.{Outcome, unless_refused}
-use Rattle.layout.specs.Bodies.{most_form}
 
 -- rows 16 to 18, of a store by its bodies: as `limits` of the rules
 unfoldable pub limited : ℕ → FlatStore → Outcome

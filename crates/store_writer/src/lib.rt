@@ -1,23 +1,16 @@
 //! The store that a change leaves, written whole where it keeps within the ceilings, the serials and the room.
 #![tactic(auto)]
 
-ghost use Rattle.std.specs.Prelude.{◌≡◌, ◌≢◌, true, ◌++◌, ◌+◌, length, MatchOption};
-ghost use Rattle.rules.specs.Layout.{flat_bytes};
-ghost use Rattle.rules.specs.Decode.{number_at};
+ghost use Rattle.std.specs.Prelude.{◌≡◌, ◌≢◌, true, length, MatchOption};
 ghost use Rattle.rules.specs.Passing.{passes};
 ghost use Rattle.rules.specs.WellFormed.{is_value};
 ghost use Rattle.rules.specs.Given.{number_given, length_given, AnswersBy};
-ghost use Rattle.codec.specs.Laid.{Laid};
-ghost use Rattle.layout.specs.Bodies.{Width, width_of};
-ghost use Rattle.layout.specs.Header.{headed};
+ghost use Rattle.layout.specs.Bodies.{width_of};
 ghost use Rattle.lookup.specs.Bodies.{bodies_of};
-ghost use Rattle.row_writer.specs.Written.{new_in};
 ghost use Rattle.store_writer.specs.Writing.{limited};
-ghost use Rattle.planned_rows.specs.Planned.{rows_after, planned, planned_in};
+ghost use Rattle.planned_rows.specs.Planned.{planned, planned_in};
 ghost use Rattle.store_laws.specs.Forms.{form_read, Forms};
 ghost use Rattle.planned_rows.specs.Walking.{Sized};
-ghost use Rattle.store_limits.specs.Limits.{limit_of};
-ghost use Rattle.layout.specs.Fields.{next_at};
 
 use row_walk::Plan;
 use rules::Refusal;

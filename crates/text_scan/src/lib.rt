@@ -22,6 +22,7 @@ pub fn length_before(text: &[u8], stop: u8) -> usize
 }
 
 /// Whether the text begins with the word.
+// The library's, with the clause in the words of the rules.
 pub fn starts_with(text: &[u8], word: &[u8]) -> bool
     ensures { result ≡ starts_with word.now text.now }
 {

@@ -2,12 +2,12 @@
 //! fillings in and renumbers, as a plan says.
 #![tactic(auto)]
 
-ghost use Rattle.std.specs.Prelude.{◌≡◌, false, [], ◌∷◌, ◌*◌, ◌<◌, ◌≤◌, length};
+ghost use Rattle.std.specs.Prelude.{◌≡◌, [], ◌∷◌, ◌*◌, ◌<◌, ◌≤◌, length};
 ghost use Rattle.rules.specs.Layout.{row_size};
 ghost use Rattle.rules.specs.Decode.{read_row, read_many};
 ghost use Rattle.layout.specs.Bodies.{Width};
 ghost use Rattle.row_writer.specs.Written.{Written, Room};
-ghost use Rattle.filling.specs.Parts.{fill_with, Asks, Indexed};
+ghost use Rattle.filling.specs.Parts.{Asks, Indexed};
 ghost use Rattle.row_walk.specs.Walk.{kept_row, owed, walked, at_first};
 ghost use Rattle.row_walk.specs.Step.{row_of_head, Planned};
 ghost use Rattle.walk_writer.specs.Step.{Came, plan_filling, Settled, Ready, Near, WalkRow, Seen, WalkRows, PlainRows, Advances};

@@ -5,9 +5,8 @@ use Prim.Native.Nat.{◌-◌}
 use native.Mathlib.Omega.{arith}
 use Rattle.rules.specs.Layout.{definition_size}
 use Rattle.rules.specs.Decode.{read_definition}
-use Rattle.lookup.proofs.Searching.{Searching, searching_start, searching_hit, searching_on, searching_end}
+use Rattle.lookup.proofs.Searching.{searching_start, searching_hit, searching_on, searching_end}
 use Rattle.definition_writer.proofs.Naming.{has_name, definitions_named, record_named}
-use borrow.Author.Rules.{rules}
 use Rattle.definition_writer.proofs.name_exists.Goals as goal
 
 pub loop-i-init : goal.loop-i-init

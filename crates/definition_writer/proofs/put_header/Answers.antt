@@ -3,7 +3,6 @@
 use mathlib.Core.Path.{sym}
 use Rattle.codec.proofs.Writers.{laid_as}
 use Rattle.layout.specs.Header.{headed}
-use borrow.Author.Rules.{rules}
 use Rattle.definition_writer.proofs.put_header.Goals as goal
 
 pub returns : goal.returns

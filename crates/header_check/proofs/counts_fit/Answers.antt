@@ -1,7 +1,6 @@
 -- `header_check::counts_fit` meets its contract: the four counts that are read are the string's, so the test is
 -- `counts_fit` (`counts_of` of CodeLaws in `records`).
 use Rattle.records.proofs.CodeLaws.{counts_of}
-use borrow.Author.Rules.{rules}
 use Rattle.header_check.proofs.counts_fit.Goals as goal
 
 pub returns : goal.returns

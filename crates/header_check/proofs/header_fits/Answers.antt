@@ -1,7 +1,6 @@
 -- `header_check::header_fits` meets its contract: size, version, next serial and the answers of the three tests are, by
 -- the contracts of the calls, those that `header_fits` joins (`header_of` of CodeLaws in `records`).
 use Rattle.records.proofs.CodeLaws.{header_of}
-use borrow.Author.Rules.{rules}
 use Rattle.header_check.proofs.header_fits.Goals as goal
 
 pub returns : goal.returns

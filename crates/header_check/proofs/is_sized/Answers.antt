@@ -1,7 +1,6 @@
 -- `header_check::is_sized` meets its contract: the counts that are read are the string's, so `through_rows` gives the
 -- length that `sized` asks for (`sized_of` of CodeLaws in `records`).
 use Rattle.records.proofs.CodeLaws.{sized_of}
-use borrow.Author.Rules.{rules}
 use Rattle.header_check.proofs.is_sized.Goals as goal
 
 pub returns : goal.returns

@@ -1,7 +1,6 @@
 -- `header_check::offsets_fit` meets its contract: the four offsets are compared with the places that the string's
 -- counts give (`offsets_of` of CodeLaws in `records`).
 use Rattle.records.proofs.CodeLaws.{offsets_of}
-use borrow.Author.Rules.{rules}
 use Rattle.header_check.proofs.offsets_fit.Goals as goal
 
 pub returns : goal.returns

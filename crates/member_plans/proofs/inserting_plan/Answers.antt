@@ -5,7 +5,6 @@ use mathlib.Core.Bool.{Bool, ◌&&◌, not}
 use Rattle.rules.specs.Model.{skips}
 use Rattle.rules.specs.Bytes.{Bytes}
 use Rattle.plans.specs.ModelCalls.{insert_element_plan}
-use borrow.Author.Rules.{rules}
 use Rattle.member_plans.proofs.inserting_plan.Goals as goal
 
 pub returns : goal.returns

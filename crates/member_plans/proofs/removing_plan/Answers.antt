@@ -5,7 +5,6 @@ use Prim.Native.Nat.{ℕ}
 use Rattle.rules.specs.Bytes.{Bytes}
 use Rattle.rules.specs.Decode.{read_particle}
 use Rattle.plans.specs.ModelCalls.{remove_element_plan}
-use borrow.Author.Rules.{rules}
 use Rattle.member_plans.proofs.removing_plan.Goals as goal
 
 pub returns : goal.returns

@@ -7,7 +7,6 @@ use Rattle.store_laws.proofs.StoreLaws.{holds}
 use Rattle.store_limits.proofs.WithinLaws.{limit_within}
 use Rattle.store_laws.proofs.FormBytesLaws.{form_short}
 use Rattle.plan_writer.proofs.EditedLaws.{heads_of, count_is, serial_is, edited_laid}
-use borrow.Author.Rules.{rules}
 use Rattle.plan_writer.proofs.put_edited.Goals as goal
 
 pub walk_rows-written-requires : goal.walk_rows-written-requires

@@ -4,7 +4,6 @@
 use native.Mathlib.Omega.{arith}
 use Rattle.codec.proofs.Writers.{laid_then}
 use Rattle.layout.proofs.HeaderLaws.{headed_short}
-use borrow.Author.Rules.{rules}
 use Rattle.plan_writer.proofs.put_form.Goals as goal
 
 pub put-requires : goal.put-requires

@@ -1,7 +1,6 @@
 -- `planned_rows::refusal` meets its contract: if the most that the plan adds is within the limits, so are its rows
 -- (`refusal_spared` of RefusalLaws); else, where `most_added` gave the number of rows of the filling (`one_of`), the
 -- contract of `filled_refusal` is this one, and where it gave none, the walk counts all rows (`refusal_counted`).
-use native.Mathlib.Omega.{arith}
 use Rattle.lookup.specs.Bodies.{bodies_of}
 use Rattle.planned_rows.specs.Planned.{rows_after}
 use mathlib.Core.Path.{sym, ◌∙◌}

@@ -2,7 +2,6 @@
 -- (`attribute_place` of PartLaws).
 use mathlib.Core.Path.{◌∙◌}
 use Rattle.printing_parts.proofs.PartLaws.{attribute_place}
-use borrow.Author.Rules.{rules}
 use Rattle.printing_parts.proofs.attribute.Goals as goal
 
 pub returns : goal.returns

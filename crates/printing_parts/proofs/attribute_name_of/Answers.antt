@@ -8,7 +8,6 @@ use native.Mathlib.Omega.{arith}
 use lib.ListN.{length}
 use Rattle.rules.specs.Decode.{read_attribute}
 use Rattle.printing_parts.proofs.PartLaws.{attribute_name_lem, attribute_short, attribute_none}
-use borrow.Author.Rules.{rules}
 use Rattle.printing_parts.proofs.attribute_name_of.Goals as goal
 
 pub returns-then-attribute_count-i : goal.returns-then-attribute_count-i

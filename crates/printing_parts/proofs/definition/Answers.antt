@@ -2,7 +2,6 @@
 -- (`definition_place` of PartLaws).
 use mathlib.Core.Path.{◌∙◌}
 use Rattle.printing_parts.proofs.PartLaws.{definition_place}
-use borrow.Author.Rules.{rules}
 use Rattle.printing_parts.proofs.definition.Goals as goal
 
 pub returns : goal.returns

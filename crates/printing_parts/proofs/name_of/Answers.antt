@@ -8,7 +8,6 @@ use native.Mathlib.Omega.{arith}
 use lib.ListN.{length}
 use Rattle.rules.specs.Decode.{read_definition}
 use Rattle.printing_parts.proofs.PartLaws.{definition_name_lem, definition_short, definition_none}
-use borrow.Author.Rules.{rules}
 use Rattle.printing_parts.proofs.name_of.Goals as goal
 
 pub returns-then-definition_count-i : goal.returns-then-definition_count-i

@@ -2,7 +2,6 @@
 -- (`particle_place` of PartLaws).
 use mathlib.Core.Path.{◌∙◌}
 use Rattle.printing_parts.proofs.PartLaws.{particle_place}
-use borrow.Author.Rules.{rules}
 use Rattle.printing_parts.proofs.particle.Goals as goal
 
 pub returns : goal.returns

@@ -1,7 +1,6 @@
 -- `quantifier_plans::element_plan` meets its contract: `requantify_plan`, given the index, the marks and the answers of
 -- `cuts` and `gains` for the particle that is read, makes `element_plan` (`element_planned` of PlanLaws).
 use Rattle.quantifier_plans.proofs.PlanLaws.{element_planned}
-use borrow.Author.Rules.{rules}
 use Rattle.quantifier_plans.proofs.element_plan.Goals as goal
 
 pub returns : goal.returns

@@ -1,7 +1,6 @@
 -- `quantifier_plans::group_plan` meets its contract: `requantify_plan`, given the marks of the group's span, the answer
 -- of `gains` and the group's particles as filling, makes `group_plan` (`group_planned` of PlanLaws).
 use Rattle.quantifier_plans.proofs.PlanLaws.{group_planned}
-use borrow.Author.Rules.{rules}
 use Rattle.quantifier_plans.proofs.group_plan.Goals as goal
 
 pub returns : goal.returns

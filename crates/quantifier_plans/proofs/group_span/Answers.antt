@@ -2,7 +2,6 @@
 -- `span` counts, are `group_span` (`span_is` of PlanLaws); those are at most 255 (`span_low`).
 use native.Mathlib.Omega.{arith}
 use Rattle.quantifier_plans.proofs.PlanLaws.{span_low, span_is}
-use borrow.Author.Rules.{rules}
 use Rattle.quantifier_plans.proofs.group_span.Goals as goal
 
 pub overflow_add-result : goal.overflow_add-result

@@ -1,7 +1,6 @@
 -- `quantifier_plans::new_plan` meets its contract: the two cases of `group` are the two clauses of `new_plan`
 -- (`new_planned` of PlanLaws).
 use Rattle.quantifier_plans.proofs.PlanLaws.{new_planned}
-use borrow.Author.Rules.{rules}
 use Rattle.quantifier_plans.proofs.new_plan.Goals as goal
 
 pub returns-then-group : goal.returns-then-group

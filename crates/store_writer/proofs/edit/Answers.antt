@@ -6,7 +6,6 @@ use lib.ListN.{length}
 use Rattle.store_laws.proofs.StoreLaws.{holds}
 use Rattle.store_laws.proofs.FormLaws.{forms_of, own_form, start_within}
 use Rattle.store_writer.proofs.FormAnswers.{own_answers}
-use borrow.Author.Rules.{rules}
 use Rattle.store_writer.proofs.edit.Goals as goal
 
 pub slice_bounds-form-count : goal.slice_bounds-form-count

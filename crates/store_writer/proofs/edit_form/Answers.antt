@@ -8,7 +8,6 @@ use Rattle.rules.proofs.GivenLaws.{refusal_some}
 use mathlib.Core.Path.{refl}
 use Rattle.store_laws.proofs.FormBytesLaws.{form_short}
 use Rattle.store_writer.proofs.EditLaws.{edit_refused, edit_written}
-use borrow.Author.Rules.{rules}
 use Rattle.store_writer.proofs.edit_form.Goals as goal
 
 pub refusal-requires : goal.refusal-requires

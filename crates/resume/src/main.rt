@@ -38,7 +38,7 @@ fn walk_first(before: &[u8], rows: &[u8], count: usize) -> Option<[u8; STATE]> {
         return None;
     }
     let mut state = [0; STATE];
-    let mut table: [u64; form_table::TABLE] = [0; form_table::TABLE];
+    let mut table = [form_table::BLANK; form_table::TABLE];
     row_check::lay_table(before, &mut table);
     let next = layout::next_serial(before);
     if !row_check::walk_rows(before, next, &table, &mut state, rows, count) {

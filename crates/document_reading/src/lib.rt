@@ -6,9 +6,11 @@ ghost use Rattle.rules.specs.Passing.{passes};
 ghost use Rattle.form_table.specs.Table.{TableOf};
 ghost use Rattle.document_reading.specs.Judging.{Stand};
 
+use form_table::Entry;
 use row_state::STATE;
 
-// So many rows are judged at a time; and their bytes, where a row has at most 267.
+// So many rows are judged at a time; and their bytes, where a row has at most 267. Fixed, since nothing allocates here:
+// so are the state, the open elements and the table.
 const BATCH: usize = 16;
 
 const BATCH_BYTES: usize = 4272;
@@ -19,7 +21,7 @@ const NEXT: usize = 4097;
 // ---- documents
 
 // Judges the documents of a text by a form and its table: how many rows they are, if they fit.
-fn judge_by(form: &[u8], table: &[u64], text: &[u8]) -> Option<usize>
+fn judge_by(form: &[u8], table: &[Entry], text: &[u8]) -> Option<usize>
     requires { (passes form.now ≡ true) × TableOf form.now table.now }
     ensures { Stand form.now text.now result }
 {
@@ -54,7 +56,7 @@ pub fn judge_documents(form: &[u8], text: &[u8]) -> Option<usize>
     requires { passes form.now ≡ true }
     ensures { Stand form.now text.now result }
 {
-    let mut table: [u64; form_table::TABLE] = [0; form_table::TABLE];
+    let mut table = [form_table::BLANK; form_table::TABLE];
     row_check::lay_table(form, &mut table);
     judge_by(form, &table, text)
 }

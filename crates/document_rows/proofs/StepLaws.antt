@@ -1,30 +1,15 @@
 -- Steps over the children of a row, one more and one less, in a model.
-use Prim.Native.Nat.{ℕ, suc, ◌+◌, ◌-◌, ◌<◌, ◌≤◌}
-use native.Mathlib.Omega.{arith}
+use Prim.Native.Nat.{ℕ, suc, ◌+◌, ◌-◌}
 use native.Mathlib.Numerals.{add-one}
 use borrow.Author.Tests.{eq-eqb, ne_eqb}
 use mathlib.Core.Path.{◌≡◌, refl, sym, ap, ap₂, ◌∙◌}
 use mathlib.Core.Bool.{Bool, true, false, ◌&&◌}
 use Rattle.std.specs.Prelude.{Option, None, Some}
 use mathlib.Core.List.{List, [], ◌∷◌, ◌++◌, append_assoc, append-nil}
-use lib.ListN.{get_or}
 use Rattle.rules.specs.Model.{Members}
 use Rattle.rules.specs.Layout.{FlatRow}
-use Rattle.sets.specs.Sets.{has}
 use Rattle.model.specs.Steps.{steps, finishes, runs}
-use Rattle.next_children.specs.Line.{NextsLine}
 use Rattle.document_rows.specs.Finding.{new_name, kept_name, word, NamesStepped}
-
--- ---- looked up in the model's line
-module _ (ms : Members ℕ) (t : List ℕ) (l : NextsLine 64 ms 0 t) (last : ℕ) (b : Bool) where
-  pub follow_found : (y : ℕ) → last ≤ 64 → y < 64 → b ≡ has (get_or t last 0) y → b ≡ steps ms last y
-  follow_found y h k e = let u : last ≡ 0 + last = omega arith in e ∙ ap (λ (i : ℕ). has (get_or t i 0) y) u ∙ l.next_is last y h k
-
-  pub end_none : last ≡ 0 → b ≡ has (get_or t 66 0) 0 → b ≡ finishes ms last
-  end_none z e = rw z (e ∙ l.nothing_is)
-
-  pub end_child : (last ≡ 0 → ⊥) → last ≤ 64 → b ≡ has (get_or t 65 0) (last - 1) → b ≡ finishes ms last
-  end_child z h e = let u : suc (last - 1) ≡ last = omega (arith, z) in e ∙ l.ends_is (last - 1) (omega (arith, z)) ∙ ap (finishes ms) u
 
 -- ---- a name stepped over, or none
 module _ (ms : Members ℕ) (last : ℕ) where

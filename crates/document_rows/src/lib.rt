@@ -9,39 +9,28 @@ ghost use Rattle.rules.specs.Refusal.{no_element, rows_of};
 ghost use Rattle.rules.specs.Kinds.{kind_by};
 ghost use Rattle.rules.specs.Layout.{row_size};
 ghost use Rattle.rules.specs.Decode.{read_row};
+ghost use Rattle.rules.specs.RowSorts.{row_number};
 ghost use Rattle.layout.specs.Bodies.{width_of, record_at, attributes_in, tree_rows_in};
 ghost use Rattle.form_index.specs.Reading.{attribute_in};
 ghost use Rattle.store_laws.specs.Stores.{store_in};
-ghost use Rattle.model.specs.Members.{all_members};
-ghost use Rattle.model.specs.Steps.{runs};
-ghost use Rattle.document_rows.specs.Finding.{Begins, ElementRowAt, ParentAt, RowOf, children_at, row_definition_kind, model_at, fits_at};
-ghost use Rattle.document_rows.specs.Finding.{has_place, element_row_with, is_this, is_parent, seek, serial_in, serial_of_index, word};
+ghost use Rattle.document_rows.specs.Finding.{Begins, ElementRowAt, ParentAt, RowOf, children_at, row_definition_kind, fits_at};
+ghost use Rattle.document_rows.specs.Finding.{has_place, element_row_with, is_this, is_parent, seek, serial_in, serial_of_index};
 ghost use Rattle.document_rows.specs.Coming.{coming};
 ghost use Rattle.lookup.specs.Bodies.{rows_from};
 
 mod nexts;
 mod tree;
 
+use form_table::Model;
 use layout::rows::Rows;
-use nexts::Nexts;
-use rules::Kind;
+use rules::{Kind, RowSort};
 use tree::Children;
-
-// The codes of the sorts of rows.
-const ELEMENT: u8 = 1;
-
-const ATTRIBUTE: u8 = 2;
-
-const TEXT: u8 = 3;
-
-// A model's line, as next_children::fill writes it.
-const LINE: usize = 67;
 
 // Whether a row is the element row with a serial.
 fn is_element(row: &[u8], element: u32) -> bool
     ensures { result ≡ element_row_with element (read_row row.now).row }
 {
-    (layout::row_sort(row) == ELEMENT) & (layout::row_serial(row) == element)
+    (layout::row_sort_of(row) == Some(RowSort::Element)) & (layout::row_serial(row) == element)
 }
 
 // The number of the element row with a serial.
@@ -68,22 +57,11 @@ fn parent_at(rows: Rows, element: u32) -> Option<usize>
     ensures { Begins rows.entry.width rows.entry.bytes.now rows.entry.count result (seek (is_parent element) (rows_from rows.entry.width rows.entry.bytes.now rows.entry.count 0)) }
 {
     for i in 0..rows.count {
-        if has_child(Children::below(rows, i, ELEMENT), element) {
+        if has_child(Children::below(rows, i, u8::from(RowSort::Element)), element) {
             return Some(i);
         }
     }
     None
-}
-
-// Whether a model takes the children, with a new one at a place and without the one with serial `skip`.
-fn children_fit(part: &[u8], children: Children, place: usize, new: usize, skip: u32) -> bool
-    requires { new < 65536 }
-    ensures { result ≡ runs (all_members part.now) 0 (word place new skip (coming children.entry)) }
-{
-    let mut line: [u64; LINE] = [0; LINE];
-    next_children::fill(part, 64, 0, &mut line);
-    let nexts = Nexts { part, line: &line };
-    nexts.takes(children, place, new, skip)
 }
 
 // ---- in a store
@@ -104,32 +82,20 @@ pub fn row_definition(store: &[u8], i: usize) -> usize
 }
 
 // The rows of a sort right below row i.
-fn children(store: &[u8], i: usize, sort: u8) -> Children<'_>
+fn children(store: &[u8], i: usize, sort: RowSort) -> Children<'_>
     requires { RowOf store.now i }
-    ensures { coming result ≡ children_at store.now sort i }
+    ensures { coming result ≡ children_at store.now (row_number sort) i }
 {
-    Children::below(layout::rows_in(store), i, sort)
+    Children::below(layout::rows_in(store), i, u8::from(sort))
 }
 
 // The serial of child number n of a sort, right below row i.
-fn nth_at(store: &[u8], i: usize, sort: u8, n: usize) -> Option<u32>
+fn nth_at(store: &[u8], i: usize, sort: RowSort, n: usize) -> Option<u32>
     requires { RowOf store.now i }
-    ensures { result ≡ slice_get (map serial_in (children_at store.now sort i)) n }
+    ensures { result ≡ slice_get (map serial_in (children_at store.now (row_number sort) i)) n }
 {
     let row = children(store, i, sort).nth(n)?;
     Some(layout::row_serial(row))
-}
-
-// The particles of the model of row i's definition.
-fn model_at(store: &[u8], i: usize) -> &[u8]
-    requires { RowOf store.now i }
-    ensures { all_members result.now ≡ model_at store.now i }
-{
-    form_index::model_part(
-        layout::definitions_of(store),
-        layout::particles_of(store),
-        row_definition(store, i),
-    )
 }
 
 /// Whether the model of row i's definition takes its children, with a new one at a place and without one.
@@ -137,8 +103,21 @@ pub fn fits_at(store: &[u8], i: usize, place: usize, new: usize, skip: u32) -> b
     requires { RowOf store.now i × (new < 65536) }
     ensures { result ≡ fits_at store.now i place new skip }
 {
-    let elements = children(store, i, ELEMENT);
-    children_fit(model_at(store, i), elements, place, new, skip)
+    let definitions = layout::definitions_of(store);
+    let particles = layout::particles_of(store);
+    let definition = row_definition(store, i);
+    let part = form_index::model_part(definitions, particles, definition);
+    let mut line = next_children::BLANK;
+    next_children::fill(part, 64, &mut line);
+    let model = Model {
+        definitions,
+        particles,
+        definition,
+        count: 64,
+        line: &line,
+    };
+    let elements = children(store, i, RowSort::Element);
+    nexts::takes(&model, elements, place, new, skip)
 }
 
 /// The kind of row i's definition.
@@ -162,7 +141,7 @@ pub fn has_place(store: &[u8], i: usize, child: usize) -> bool
     requires { RowOf store.now i }
     ensures { result ≡ has_place store.now i child }
 {
-    child == 0 || nth_at(store, i, ELEMENT, child - 1).unwrap_or(0) != 0
+    child == 0 || nth_at(store, i, RowSort::Element, child - 1).unwrap_or(0) != 0
 }
 
 /// The serial of the text row right below an element.
@@ -170,7 +149,7 @@ pub fn text_serial(store: &[u8], element: u32) -> Option<u32>
     requires { (passes store.now ≡ true) × (no_element element (store_in store.now) ≡ false) }
     ensures { unwrap_or result 0 ≡ serial_at 0 (children_of is_text_row element (rows_of (store_in store.now))) }
 {
-    nth_at(store, find_element(store, element)?, TEXT, 0)
+    nth_at(store, find_element(store, element)?, RowSort::Text, 0)
 }
 
 /// The serial of element child number `child` of an element.
@@ -178,7 +157,12 @@ pub fn child_serial(store: &[u8], parent: u32, child: u32) -> Option<u32>
     requires { (passes store.now ≡ true) × (no_element parent (store_in store.now) ≡ false) }
     ensures { unwrap_or result 0 ≡ serial_at child (children_of is_element_row parent (rows_of (store_in store.now))) }
 {
-    nth_at(store, find_element(store, parent)?, ELEMENT, child as usize)
+    nth_at(
+        store,
+        find_element(store, parent)?,
+        RowSort::Element,
+        child as usize,
+    )
 }
 
 // ---- attributes
@@ -197,7 +181,7 @@ pub fn attribute_row_serial(store: &[u8], i: usize, attribute: usize) -> Option<
     requires { RowOf store.now i }
     ensures { result ≡ serial_of_index attribute (children_at store.now 2 i) }
 {
-    let mut rows = children(store, i, ATTRIBUTE);
+    let mut rows = children(store, i, RowSort::Attribute);
     let row = rows.find(|row| layout::row_index(row) as usize == attribute)?;
     Some(layout::row_serial(row))
 }

@@ -1,5 +1,5 @@
--- The table of a form: a line of 68 sets for each definition, filled once and looked up for each row.
-use Rattle.std.specs.Prelude.{ℕ, zero, suc, ◌+◌, ◌*◌, ◌<◌, ◌≤◌, ◌≡◌, Bool, true, not, ◌&&◌, ◌||◌, List, eqb, ltb, length, get_or}
+-- The table of a form: an entry for each definition, filled once and looked up for each row.
+use Rattle.std.specs.Prelude.{ℕ, zero, suc, ◌<◌, ◌≤◌, ◌≡◌, Bool, true, false, not, ◌&&◌, ◌||◌, List, [], eqb, ltb, length, get_or}
 use Rattle.rules.specs.Bytes.{Bytes}
 use Rattle.rules.specs.Decode.{version_in, definition_count, particle_count, attribute_count, sort_of}
 use Rattle.rules.specs.Conforming.{must_be_present}
@@ -9,6 +9,7 @@ use Rattle.sets.specs.Sets.{has}
 use Rattle.model.specs.Members.{all_members}
 use Rattle.next_children.specs.Line.{NextsLine}
 use Rattle.form_index.specs.Reading.{attribute_in, model_part}
+use Rattle.form_table.specs.declared.Entry.{Entry}
 use Rattle.form_table.specs.Every.{every}
 
 -- a form within the ceilings of a store
@@ -30,18 +31,22 @@ abbrev pub freed_of : ℕ → ℕ → ℕ → Bool
 freed_of s a zero = true
 freed_of s a (suc from) = every (λ j. not (has s j)) a from
 
--- the sets of the models of the first i definitions
-pub record Modelled (f : Form) (i : ℕ) (t : List ℕ) : Type 0 where
-  pub line : (k : ℕ) → k < i → NextsLine f.definition_count (all_members (model_part f.definitions.now f.particles.now k)) (68 * k) t
+-- what a table has for definition i; nothing past its end
+abbrev pub entry_at : List Entry → ℕ → Entry
+entry_at t i = get_or t i (record { line = record { after = []; lasts = 0; nothing = false }; needed = 0 })
+
+-- the lines of the models of the first i definitions
+pub record Modelled (f : Form) (i : ℕ) (t : List Entry) : Type 0 where
+  pub line : (k : ℕ) → k < i → NextsLine f.definition_count (all_members (model_part f.definitions.now f.particles.now k)) (entry_at t k).line
 
 -- THE TABLE of a form
-pub record Tabled (f : Form) (t : List ℕ) : Type 0 where
-  pub long : 4352 ≤ length t
+pub record Tabled (f : Form) (t : List Entry) : Type 0 where
+  pub long : 64 ≤ length t
   pub models : Modelled f f.definition_count t
-  pub needed : (i : ℕ) → i < f.definition_count → Needed f i (get_or t (68 * i + 67) 0)
+  pub needed : (i : ℕ) → i < f.definition_count → Needed f i (entry_at t i).needed
 
 -- .. of one within the ceilings
-pub record TabledForm (f : Form) (t : List ℕ) : Type 0 where
+pub record TabledForm (f : Form) (t : List Entry) : Type 0 where
   pub few : FormFew f
   pub table : Tabled f t
 
@@ -60,25 +65,25 @@ form_in bs =
     }
 
 -- .. of the form that a byte string says
-pub record TableOf (bs : Bytes) (t : List ℕ) : Type 0 where
+pub record TableOf (bs : Bytes) (t : List Entry) : Type 0 where
   pub is : Tabled (form_in bs) t
 
 -- ---- while it is filled
 -- the models of the first i definitions, and no attribute yet
-pub record Lined (f : Form) (i : ℕ) (t : List ℕ) : Type 0 where
+pub record Lined (f : Form) (i : ℕ) (t : List Entry) : Type 0 where
   pub models : Modelled f i t
-  pub blank : (k : ℕ) → k < i → get_or t (68 * k + 67) 0 ≡ 0
+  pub blank : (k : ℕ) → k < i → (entry_at t k).needed ≡ 0
 
--- the models' sets stay
-pub record SetsStay (t t' : List ℕ) : Type 0 where
-  pub same : (i l : ℕ) → l ≤ 66 → get_or t' (68 * i + l) 0 ≡ get_or t (68 * i + l) 0
+-- the models' lines stay
+pub record LinesStay (t t' : List Entry) : Type 0 where
+  pub same : (i : ℕ) → (entry_at t' i).line ≡ (entry_at t i).line
 
 -- attribute j more
-pub record OneNeed (f : Form) (j : ℕ) (t t' : List ℕ) : Type 0 where
-  pub apart : SetsStay t t'
-  pub wanted : (i k : ℕ) → i < f.definition_count → k < 64 → has (get_or t' (68 * i + 67) 0) k ≡ (has (get_or t (68 * i + 67) 0) k || (wants f i j && eqb k j))
+pub record OneNeed (f : Form) (j : ℕ) (t t' : List Entry) : Type 0 where
+  pub apart : LinesStay t t'
+  pub wanted : (i k : ℕ) → i < f.definition_count → k < 64 → has (entry_at t' i).needed k ≡ (has (entry_at t i).needed k || (wants f i j && eqb k j))
 
 -- the first a attributes, where there was none
-pub record Needs (f : Form) (a : ℕ) (t t' : List ℕ) : Type 0 where
-  pub apart : SetsStay t t'
-  pub wanted : (i k : ℕ) → i < f.definition_count → k < 64 → get_or t (68 * i + 67) 0 ≡ 0 → has (get_or t' (68 * i + 67) 0) k ≡ (ltb k a && wants f i k)
+pub record Needs (f : Form) (a : ℕ) (t t' : List Entry) : Type 0 where
+  pub apart : LinesStay t t'
+  pub wanted : (i k : ℕ) → i < f.definition_count → k < 64 → (entry_at t i).needed ≡ 0 → has (entry_at t' i).needed k ≡ (ltb k a && wants f i k)

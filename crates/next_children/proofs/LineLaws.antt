@@ -1,7 +1,6 @@
 -- A model's line, entry by entry: the sets of each last child are those that the automaton steps by.
-use mathlib.Core.Path.{◌≡◌, refl, sym, ap, ap₂, subst, ◌∙◌}
+use mathlib.Core.Path.{◌≡◌, refl, sym, ap, ap₂, ◌∙◌}
 use mathlib.Core.Bool.{Bool, true, false, ◌&&◌, ◌||◌, and-true, and-false}
-use mathlib.Core.List.{List}
 use Prim.Native.Nat.{ℕ, zero, suc, ◌+◌, ◌<◌, ◌≤◌}
 use native.Mathlib.Omega.{arith}
 use native.Mathlib.Numerals.{add-one}
@@ -18,13 +17,14 @@ use Rattle.rules.specs.Bytes.{numbers}
 use Rattle.rules.specs.Model.{Members, done, el, group}
 use Rattle.rules.specs.Automaton.{single, join, quantify_facts, facts}
 use Rattle.sets.specs.Sets.{has, bit, union, whole_if}
-use Rattle.sets.proofs.Laws.{has_none, has_first, has_bit, has_union, has_given}
+use Rattle.sets.proofs.Laws.{has_none, has_bit, has_union, has_given}
 use Rattle.model.specs.Steps.{steps, finishes}
 use Rattle.model.proofs.FactsLaws.{facts_nothing, or_never}
 use Rattle.automaton.specs.declared.Nexts.{Nexts}
 use Rattle.next_children.specs.Nexts.{Told}
 use Rattle.next_children.specs.Names.{After}
-use Rattle.next_children.specs.Line.{Filled, NextsLaid}
+use Rattle.next_children.specs.Line.{NextsLine, LineLaid}
+use Rattle.next_children.specs.declared.Line.{Line}
 
 -- ---- what a word's first can be does not depend on x
 record Alike (f g : Facts) : Type 0 where
@@ -67,24 +67,6 @@ module _ (ms : Members ℕ) (x : ℕ) (r : Nexts ℕ) (t : Told r (λ y. facts n
   nothing_finishes = t.nothing_is x ∙ facts_nothing numbers Sequence ms x x
 
 -- ---- the loop over the last children
-pub record Filling (n : ℕ) (ms : Members ℕ) (t : List ℕ) (at x ends : ℕ) (t' : List ℕ) : Type 0 where
-  pub low : x ≤ n
-  pub long : length t' ≡ length t
-  pub laid : NextsLaid ms t at x ends t'
-
-pub filling_starts : (n : ℕ) (ms : Members ℕ) (t : List ℕ) (at : ℕ) → Filling n ms t at 0 0 t
-filling_starts n ms t at =
-    record {
-      low = omega arith;
-      long = refl;
-      laid =
-          record {
-            next_is = λ last y h. absurd (omega arith);
-            ends_is = λ last h. has_none last ∙ sym (ap (λ (b : Bool). b && finishes ms (suc last)) (le-ltb last 0 (omega arith)));
-            rest = record { kept = λ j h. refl };
-          };
-    }
-
 -- the set with x in it where b says so
 pub ends_more : (x last : ℕ) (old b : Bool) (f : ℕ → Bool) → b ≡ f x → old ≡ (ltb last x && f last) → (old || (b && eqb last x)) ≡ (ltb last (suc x) && f last)
 ends_more x last old b f eb eo = by (ltb last x) refl (eqb last x) refl
@@ -98,85 +80,63 @@ ends_more x last old b f eb eo = by (ltb last x) refl (eqb last x) refl
         let z : last ≡ x → ⊥ = eqb-false last x q in
         rw (eo, e, q, le-ltb last (suc x) (omega (arith, ltb-false last x e, z))) (and-false b)
 
-module _ (n : ℕ) (ms : Members ℕ) (t : List ℕ) (at x ends : ℕ) (t' : List ℕ) (l : Filling n ms t at x ends t') (small : n ≤ 64) (room : at + 67 ≤ length t) where
-  pub filling_on : x < n → (r : Nexts ℕ) → After ms x r → (one more all : ℕ) → one ≡ bit x → more ≡ whole_if r.last one → all ≡ union ends more
-      → Filling n ms t at (x + 1) all (set t' (at + 1 + x) r.follow)
-  filling_on h r after one more all e₁ e₂ e₃ =
+-- of the children below n the first x are in the line
+pub record Lining (n : ℕ) (ms : Members ℕ) (x lasts : ℕ) (l : Line) : Type 0 where
+  pub low : x ≤ n
+  pub long : length l.after ≡ 65
+  pub laid : LineLaid ms x lasts l
+
+module _ (n : ℕ) (ms : Members ℕ) where
+  -- with none of them there are those that may come first, and whether no child is owed at all
+  pub lining_starts : (none : Nexts ℕ) → Told none (λ y. facts numbers Sequence ms 0 y) → (l : Line) → length l.after ≡ 65
+      → Lining n ms 0 0 (record { after = set l.after 0 none.first; lasts = l.lasts; nothing = none.nothing })
+  lining_starts none told l long =
       record {
         low = omega arith;
-        long = length-set t' (at + 1 + x) r.follow ∙ l.long;
+        long = length-set l.after 0 none.first ∙ long;
         laid =
             record {
-              next_is = λ last y k m. by last y k m (eqb last x) refl;
-              ends_is =
-                  λ last k. ap (λ (s : ℕ). has s last) (e₃ ∙ ap (union ends) (e₂ ∙ ap (whole_if r.last) e₁)) ∙ has_union ends (whole_if r.last (bit x)) last
-                  ∙ ap (λ (b : Bool). has ends last || b) (has_given r.last (bit x) last ∙ ap (λ (b : Bool). r.last && b) (has_bit x last k))
-                  ∙ ends_more x last (has ends last) r.last (λ i. finishes ms (suc i)) after.last_is (l.laid.ends_is last k)
-                  ∙ ap (λ (i : ℕ). ltb last i && finishes ms (suc last)) (sym (add-one x));
-              rest = record { kept = λ j k. get_or-set_other t' (at + 1 + x) j r.follow 0 (λ e. omega arith) ∙ l.laid.rest.kept j k };
-            };
-      }
-    where
-      by : (last y : ℕ) → last < x + 1 → y < 64 → (b : Bool) → eqb last x ≡ b → has (get_or (set t' (at + 1 + x) r.follow) (at + 1 + last) 0) y ≡ steps ms (suc last) y
-      by last y k m true e =
-          let z : last ≡ x = eqb-true last x e in
-          rw (z, get_or-set_same t' (at + 1 + x) r.follow 0 (omega (arith, l.long))) (after.follow_is y m)
-      by last y k m false e =
-          let z : last ≡ x → ⊥ = eqb-false last x e in
-          ap (λ (s : ℕ). has s y) (get_or-set_other t' (at + 1 + x) (at + 1 + last) r.follow 0 (λ q. z (omega arith))) ∙ l.laid.next_is last y (omega (arith, z)) m
-
-  pub filling_ends : n ≤ x → NextsLaid ms t at n ends t'
-  filling_ends h = let e : x ≡ n = omega (arith, l.low) in subst (λ (i : ℕ). NextsLaid ms t at i ends t') e l.laid
-
--- ---- the whole line
-module _ (n : ℕ) (ms : Members ℕ) (t : List ℕ) (at ends : ℕ) (t' : List ℕ) (l : NextsLaid ms t at n ends t') (long : length t' ≡ length t) (small : n ≤ 64) (room : at + 67 ≤ length t)
-    (none : Nexts ℕ) (told : Told none (λ y. facts numbers Sequence ms 0 y)) (more : ℕ) (e : more ≡ whole_if none.nothing 1) where
-  abbrev written : List ℕ
-  written = set (set (set t' at none.first) (at + 65) ends) (at + 66) more
-
-  -- what no write touched
-  other : (j : ℕ) → (j ≡ at → ⊥) → (j ≡ at + 65 → ⊥) → (j ≡ at + 66 → ⊥) → get_or written j 0 ≡ get_or t' j 0
-  other j a b c =
-      get_or-set_other (set (set t' at none.first) (at + 65) ends) (at + 66) j more 0 c ∙ get_or-set_other (set t' at none.first) (at + 65) j ends 0 b
-      ∙ get_or-set_other t' at j none.first 0 a
-
-  long₁ : length (set t' at none.first) ≡ length t
-  long₁ = length-set t' at none.first ∙ long
-
-  long₂ : length (set (set t' at none.first) (at + 65) ends) ≡ length t
-  long₂ = length-set (set t' at none.first) (at + 65) ends ∙ long₁
-
-  first_at : get_or written (at + 0) 0 ≡ none.first
-  first_at =
-      let z : at + 0 ≡ at = omega arith in
-      ap (λ (j : ℕ). get_or written j 0) z ∙ get_or-set_other (set (set t' at none.first) (at + 65) ends) (at + 66) at more 0 (λ q. omega arith)
-      ∙ get_or-set_other (set t' at none.first) (at + 65) at ends 0 (λ q. omega arith) ∙ get_or-set_same t' at none.first 0 (omega arith)
-
-  ends_at : get_or written (at + 65) 0 ≡ ends
-  ends_at =
-      get_or-set_other (set (set t' at none.first) (at + 65) ends) (at + 66) (at + 65) more 0 (λ q. omega arith)
-      ∙ get_or-set_same (set t' at none.first) (at + 65) ends 0 (omega (arith, long₁))
-
-  nothing_at : get_or written (at + 66) 0 ≡ more
-  nothing_at = get_or-set_same (set (set t' at none.first) (at + 65) ends) (at + 66) more 0 (omega (arith, long₂))
-
-  pub line_filled : Filled n ms t at written
-  line_filled =
-      record {
-        line =
-            record {
               next_is = next;
-              ends_is =
-                  λ x h. ap (λ (s : ℕ). has s x) ends_at ∙ l.ends_is x (omega arith) ∙ ap (λ (b : Bool). b && finishes ms (suc x)) (lt-ltb x n h);
-              nothing_is =
-                  ap (λ (s : ℕ). has s 0) (nothing_at ∙ e) ∙ has_given none.nothing 1 0
-                  ∙ ap (λ (b : Bool). none.nothing && b) (has_first 1) ∙ and-true none.nothing ∙ nothing_finishes ms 0 none told;
+              ends_is = λ last h. has_none last ∙ sym (ap (λ (b : Bool). b && finishes ms (suc last)) (le-ltb last 0 (omega arith)));
+              nothing_is = nothing_finishes ms 0 none told;
             };
-        rest = record { kept = λ j h. other j (λ q. omega arith) (λ q. omega arith) (λ q. omega arith) ∙ l.rest.kept j h };
       }
     where
-      next : (last y : ℕ) → last ≤ n → y < 64 → has (get_or written (at + last) 0) y ≡ steps ms last y
-      next zero y h k = ap (λ (s : ℕ). has s y) first_at ∙ first_steps ms 0 none told y k
-      next (suc x) y h k =
-          let z : at + suc x ≡ at + 1 + x = omega arith in
-          ap (λ (s : ℕ). has s y) (other (at + suc x) (λ q. omega arith) (λ q. omega arith) (λ q. omega arith) ∙ ap (λ (j : ℕ). get_or t' j 0) z) ∙ l.next_is x y (omega arith) k
+      next : (last y : ℕ) → last ≤ 0 → y < 64 → has (get_or (set l.after 0 none.first) last 0) y ≡ steps ms last y
+      next zero y h k = ap (λ (s : ℕ). has s y) (get_or-set_same l.after 0 none.first 0 (omega (arith, long))) ∙ first_steps ms 0 none told y k
+      next (suc x) y h k = absurd (omega arith)
+
+  module _ (x lasts : ℕ) (l : Line) (so_far : Lining n ms x lasts l) (small : n ≤ 64) where
+    pub lining_on : x < n → (r : Nexts ℕ) → After ms x r → (one more all : ℕ) → one ≡ bit x → more ≡ whole_if r.last one → all ≡ union lasts more
+        → Lining n ms (x + 1) all (record { after = set l.after (x + 1) r.follow; lasts = l.lasts; nothing = l.nothing })
+    lining_on h r after one more all e₁ e₂ e₃ =
+        record {
+          low = omega arith;
+          long = length-set l.after (x + 1) r.follow ∙ so_far.long;
+          laid =
+              record {
+                next_is = λ last y k m. by last y k m (eqb last (x + 1)) refl;
+                ends_is =
+                    λ last k. ap (λ (s : ℕ). has s last) (e₃ ∙ ap (union lasts) (e₂ ∙ ap (whole_if r.last) e₁)) ∙ has_union lasts (whole_if r.last (bit x)) last
+                    ∙ ap (λ (b : Bool). has lasts last || b) (has_given r.last (bit x) last ∙ ap (λ (b : Bool). r.last && b) (has_bit x last k))
+                    ∙ ends_more x last (has lasts last) r.last (λ i. finishes ms (suc i)) after.last_is (so_far.laid.ends_is last k)
+                    ∙ ap (λ (i : ℕ). ltb last i && finishes ms (suc last)) (sym (add-one x));
+                nothing_is = so_far.laid.nothing_is;
+              };
+        }
+      where
+        by : (last y : ℕ) → last ≤ x + 1 → y < 64 → (b : Bool) → eqb last (x + 1) ≡ b → has (get_or (set l.after (x + 1) r.follow) last 0) y ≡ steps ms last y
+        by last y k m true e =
+            let z : last ≡ x + 1 = eqb-true last (x + 1) e in
+            rw (z, get_or-set_same l.after (x + 1) r.follow 0 (omega (arith, so_far.long))) (after.follow_is y m ∙ ap (λ (i : ℕ). steps ms i y) (sym (add-one x)))
+        by last y k m false e =
+            let z : last ≡ x + 1 → ⊥ = eqb-false last (x + 1) e in
+            ap (λ (s : ℕ). has s y) (get_or-set_other l.after (x + 1) last r.follow 0 z) ∙ so_far.laid.next_is last y (omega (arith, z)) m
+
+    pub lining_ends : n ≤ x → NextsLine n ms (record { after = l.after; lasts = lasts; nothing = l.nothing })
+    lining_ends h =
+        record {
+          next_is = λ last y k m. so_far.laid.next_is last y (omega arith) m;
+          ends_is = λ i k. so_far.laid.ends_is i (omega arith) ∙ ap (λ (b : Bool). b && finishes ms (suc i)) (lt-ltb i x (omega arith));
+          nothing_is = so_far.laid.nothing_is;
+        }

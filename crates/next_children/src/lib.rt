@@ -3,7 +3,7 @@
 //! looked up afterwards.
 #![tactic(auto)]
 
-ghost use Rattle.std.specs.Prelude.{◌+◌, ◌<◌, ◌≤◌, length};
+ghost use Rattle.std.specs.Prelude.{◌≡◌, ◌<◌, ◌≤◌};
 ghost use Rattle.rules.specs.declared.GroupKind.TheVariants.{Sequence};
 ghost use Rattle.rules.specs.Bytes.{numbers};
 ghost use Rattle.rules.specs.Automaton.{facts};
@@ -11,7 +11,7 @@ ghost use Rattle.sets.specs.Sets.{has};
 ghost use Rattle.model.specs.Members.{all_members};
 ghost use Rattle.next_children.specs.Nexts.{Told};
 ghost use Rattle.next_children.specs.Names.{FirstName, NamesIn, After};
-ghost use Rattle.next_children.specs.Line.{NextsLaid, Filled};
+ghost use Rattle.next_children.specs.Line.{NextsLine};
 
 use automaton::{Names, Nexts};
 use layout::PARTICLE_SIZE;
@@ -49,6 +49,22 @@ impl Names for AllNames {
         sets::given(there, a)
     }
 }
+
+/// A model's line of a table, for the children below a number: at 0 those that may come first, at 1 + x those that may
+/// follow the child x; those after which no child is owed; whether none is owed at all.
+#[derive(Clone, Copy)]
+pub struct Line {
+    pub after: [u64; 65],
+    pub lasts: u64,
+    pub nothing: bool,
+}
+
+/// A line that says nothing.
+pub const BLANK: Line = Line {
+    after: [0; 65],
+    lasts: 0,
+    nothing: false,
+};
 
 /// Of a whole model.
 pub fn nexts_of(ms: &[u8], x: usize) -> Nexts<u64>
@@ -94,30 +110,20 @@ fn after_child(ms: &[u8], names: u64, x: usize) -> Nexts<u64>
     }
 }
 
-// Writes at `at + 1 + x` what may follow the child x, for each x below n; gives those after which no child is owed.
-fn fill_after(ms: &[u8], n: usize, at: usize, t: &mut [u64]) -> u64
-    requires { (n ≤ 64) × (at + 67 ≤ length t.old) }
-    ensures { NextsLaid (all_members ms.now) t.old at n result t.new }
+/// Writes the line of a model, for the children below n.
+pub fn fill(ms: &[u8], n: usize, line: &mut Line)
+    requires { n ≤ 64 }
+    ensures { NextsLine n (all_members ms.now) line.new }
 {
     let names = names_in(ms);
-    let mut ends: u64 = 0;
+    let none = nexts_of(ms, 0);
+    line.after[0] = none.first;
+    line.nothing = none.nothing;
+    let mut lasts: u64 = 0;
     for x in 0..n {
         let r = after_child(ms, names, x);
-        t[at + 1 + x] = r.follow;
-        ends = sets::union(ends, sets::given(r.last, sets::bit(x)));
+        line.after[x + 1] = r.follow;
+        lasts = sets::union(lasts, sets::given(r.last, sets::bit(x)));
     }
-    ends
-}
-
-/// Writes a model's line of the table, 67 sets from `at` on: those that may come first, those that may follow each
-/// child below n, at 65 those after which no child is owed, at 66 whether none is owed at all.
-pub fn fill(ms: &[u8], n: usize, at: usize, t: &mut [u64])
-    requires { (n ≤ 64) × (at + 67 ≤ length t.old) }
-    ensures { Filled n (all_members ms.now) t.old at t.new }
-{
-    let none = nexts_of(ms, 0);
-    let ends = fill_after(ms, n, at, t);
-    t[at] = none.first;
-    t[at + 65] = ends;
-    t[at + 66] = sets::given(none.nothing, 1);
+    line.lasts = lasts;
 }

@@ -5,7 +5,7 @@ use native.Mathlib.Numerals.{sub-one}
 use mathlib.Core.Path.{◌≡◌, refl, ap, sym, ◌∙◌}
 use mathlib.Core.Bool.{Bool, true, false, not, ◌&&◌}
 use lib.Dec.{ltb, leb, eqb}
-use borrow.Author.Tests.{lt-ltb, le-leb, ne_eqb}
+use borrow.Author.Tests.{lt-ltb, le-leb}
 use Rattle.rules.specs.Bytes.{Bytes}
 use Rattle.rules.specs.Layout.{FlatRow}
 use Rattle.rules.specs.Decode.{read_row}
@@ -39,20 +39,21 @@ pub value_read : (f : IndexForm) (j : ℕ) (row v : Bytes) (b : Bool) → v ≡ 
 value_read f j row v b q h = h ∙ ap (f.allows j) q
 
 -- ---- rows
-module _ (f : IndexForm) (l : OpenElement) (r : FlatRow) (s : ℕ) (e : s ≡ r.sort) where
-  row_both : (s ≡ 2 → ⊥) → (index : ℕ) (a b : Bool) → index ≡ r.index → a ≡ freed f l.index l.seen → b ≡ child_may (f.kind l.index) (f.model l.index) l.last s index
+-- a row that is no attribute's
+module _ (f : IndexForm) (l : OpenElement) (r : FlatRow) (other : eqb r.sort 2 ≡ false) where
+  row_both : (a b : Bool) → a ≡ freed f l.index l.seen → b ≡ child_may (f.kind l.index) (f.model l.index) l.last r.sort r.index
       → (a && b) ≡ row_may f (eqb r.sort 2) l r
-  row_both h index a b ei ea eb = let t : eqb r.sort 2 ≡ false = ne_eqb r.sort 2 (λ z. h (e ∙ z)) in rw (t, ea, eb, e, ei)
+  row_both a b ea eb = rw (other, ea, eb)
 
   -- an attribute is owed
-  pub row_owed : (s ≡ 2 → ⊥) → (a : Bool) → a ≡ freed f l.index l.seen → a ≡ false → false ≡ row_may f (eqb r.sort 2) l r
-  row_owed h a ea n =
-      ap (λ (x : Bool). x && child_may (f.kind l.index) (f.model l.index) l.last s r.index) (sym n)
-      ∙ row_both h r.index a (child_may (f.kind l.index) (f.model l.index) l.last s r.index) refl ea refl
+  pub row_owed : (a : Bool) → a ≡ freed f l.index l.seen → a ≡ false → false ≡ row_may f (eqb r.sort 2) l r
+  row_owed a ea n =
+      ap (λ (x : Bool). x && child_may (f.kind l.index) (f.model l.index) l.last r.sort r.index) (sym n)
+      ∙ row_both a (child_may (f.kind l.index) (f.model l.index) l.last r.sort r.index) ea refl
 
-  pub row_child : (s ≡ 2 → ⊥) → (index : ℕ) (a b : Bool) → index ≡ r.index → a ≡ freed f l.index l.seen → a ≡ true
-      → b ≡ child_may (f.kind l.index) (f.model l.index) l.last s index → b ≡ row_may f (eqb r.sort 2) l r
-  row_child h index a b ei ea y eb = ap (λ (x : Bool). x && b) (sym y) ∙ row_both h index a b ei ea eb
+  pub row_child : (a b : Bool) → a ≡ freed f l.index l.seen → a ≡ true
+      → b ≡ child_may (f.kind l.index) (f.model l.index) l.last r.sort r.index → b ≡ row_may f (eqb r.sort 2) l r
+  row_child a b ea y eb = ap (λ (x : Bool). x && b) (sym y) ∙ row_both a b ea eb
 
 module _ (f : IndexForm) (l : OpenElement) where
   module _ (a : Bool) (p : a ≡ freed f l.index l.seen) where

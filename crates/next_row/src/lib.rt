@@ -3,15 +3,18 @@
 
 ghost use Rattle.std.specs.Prelude.{◌≡◌, ◌<◌, eqb};
 ghost use Rattle.rules.specs.Decode.{read_row};
+ghost use Rattle.rules.specs.RowSorts.{row_number};
 ghost use Rattle.form_index.specs.Reading.{index_form_of};
 ghost use Rattle.form_table.specs.Table.{Needed};
 ghost use Rattle.next_row.specs.Judge.{child_may, children_end, attribute_may, row_may, rows_end, may, ends};
 
 use form_table::FormTable;
-use rules::Kind;
+use rules::{Kind, RowSort};
 
 /// An element that is open: its definition, 1 and the first attribute that may still come (0: none may), and 1 and its
 /// last child's index (0: no child yet).
+// Bytes and not Options: they are those of the state (paper 02, W3; `level_at` of row_state), and `attribute_may`,
+// `freed`, `steps` and `finishes` speak of these numbers.
 #[derive(Clone, Copy)]
 pub struct OpenElement {
     pub index: u8,
@@ -28,16 +31,25 @@ pub enum Level {
     Nothing,
 }
 
+/// Whether a row is of a sort.
+#[tactic(auto, using(rules::proofs::RowSortLaws::sort_read))]
+pub fn is_of(row: &[u8], sort: RowSort) -> bool
+    ensures { result ≡ eqb (read_row row.now).row.sort (row_number sort) }
+{
+    layout::row_sort_of(row) == Some(sort)
+}
+
 // ---- children
 // Whether a row may come next after the child `last` of definition i.
-fn child_may(t: &FormTable<'_>, i: usize, last: usize, sort: u8, index: usize) -> bool
+fn child_may(t: &FormTable<'_>, i: usize, last: usize, row: &[u8]) -> bool
     requires { i < t.now.form.definition_count }
-    ensures { let f = index_form_of t.now.form in result ≡ child_may (f.kind i) (f.model i) last sort index }
+    ensures { let f = index_form_of t.now.form in let r = (read_row row.now).row in result ≡ child_may (f.kind i) (f.model i) last r.sort r.index }
 {
+    let index = layout::row_index(row) as usize;
     match form_index::content_kind(t.form.definitions, i) {
         Kind::Empty => false,
-        Kind::Pcdata => (sort == 3) & (last == 0),
-        Kind::Complex => (sort == 1) & form_table::may_follow(&t.form, t.sets, i, last, index),
+        Kind::Pcdata => is_of(row, RowSort::Text) & (last == 0),
+        Kind::Complex => is_of(row, RowSort::Element) & t.model(i).follows(last, index),
     }
 }
 
@@ -49,7 +61,7 @@ fn children_end(t: &FormTable<'_>, i: usize, last: usize) -> bool
     match form_index::content_kind(t.form.definitions, i) {
         Kind::Empty => true,
         Kind::Pcdata => last != 0,
-        Kind::Complex => form_table::may_finish(&t.form, t.sets, i, last),
+        Kind::Complex => t.model(i).ends(last),
     }
 }
 
@@ -85,15 +97,13 @@ fn row_may(t: &FormTable<'_>, e: OpenElement, row: &[u8]) -> bool
     let i = e.index as usize;
     let seen = e.seen as usize;
     let needed = t.needed(i);
-    let sort = layout::row_sort(row);
-    if sort == 2 {
+    if is_of(row, RowSort::Attribute) {
         return attribute_may(t, needed, i, seen, row);
     }
     if !form_table::is_freed(needed, t.form.attribute_count, seen) {
         return false;
     }
-    let index = layout::row_index(row) as usize;
-    child_may(t, i, e.last as usize, sort, index)
+    child_may(t, i, e.last as usize, row)
 }
 
 // Whether nothing more is owed below an element.
@@ -113,7 +123,7 @@ pub fn may_come(t: &FormTable<'_>, l: Level, row: &[u8]) -> bool
     ensures { result ≡ may (index_form_of t.now.form) l (read_row row.now).row }
 {
     match l {
-        Level::Documents => layout::row_sort(row) == 1,
+        Level::Documents => is_of(row, RowSort::Element),
         Level::Element(e) => (e.index as usize) < t.form.definition_count && row_may(t, e, row),
         Level::Nothing => false,
     }

@@ -53,7 +53,7 @@ impl<'a> Rows<'a> {
     // The first part of a walk: the state after these rows, if they may all come.
     fn state_after(self) -> Option<[u8; STATE]> {
         let mut state = [0; STATE];
-        let mut table: [u64; form_table::TABLE] = [0; form_table::TABLE];
+        let mut table = [form_table::BLANK; form_table::TABLE];
         row_check::lay_table(self.before, &mut table);
         let next = layout::next_serial(self.before);
         if !row_check::walk_rows(

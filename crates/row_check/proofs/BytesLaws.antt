@@ -11,6 +11,7 @@ use Rattle.layout.specs.Bodies.{width_of}
 use Rattle.layout.specs.Form.{FormOf}
 use Rattle.form_index.specs.Indices.{IndexForm}
 use Rattle.form_index.specs.Reading.{index_form, index_form_of, by_index}
+use Rattle.form_table.specs.declared.Entry.{Entry}
 use Rattle.form_table.specs.Table.{FormFew, TabledForm, TableOf}
 use Rattle.form_table.proofs.TableLaws.{tabled_in, tabled_of}
 use Rattle.open_levels.specs.Open.{end}
@@ -27,10 +28,10 @@ module _ {bs : Bytes} {f : Form} (x : FormOf bs f) where
       }
 
   -- the table
-  pub table_lent : {t : List ℕ} → TabledForm f t → TableOf bs t
+  pub table_lent : {t : List Entry} → TabledForm f t → TableOf bs t
   table_lent y = record { is = tabled_in x y.table }
 
-  pub tabled_lent : FewIn bs → {t : List ℕ} → TableOf bs t → TabledForm f t
+  pub tabled_lent : FewIn bs → {t : List Entry} → TableOf bs t → TabledForm f t
   tabled_lent few y = record { few = few_lent few; table = tabled_of x y.is }
 
   pub room_lent : (count size : ℕ) → row_size (width_of bs) * count ≤ size → row_size f.width * count ≤ size

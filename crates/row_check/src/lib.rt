@@ -13,7 +13,7 @@ ghost use Rattle.row_step.specs.Steps.{before_by};
 ghost use Rattle.row_check.specs.Verdict.{answer_from, verdict};
 ghost use Rattle.row_check.specs.Walking.{before_with, FewIn, WalkMade};
 
-use form_table::FormTable;
+use form_table::{Entry, FormTable};
 use row_state::STATE;
 
 // The steps of `count` rows. Nothing else calls `row_step::step`, so that it is compiled into this loop, for the check
@@ -32,10 +32,12 @@ fn steps(t: &FormTable<'_>, next: usize, state: &mut [u8; STATE], rows: &[u8], c
 }
 
 // ---- by the bytes before the tree body
+// What a caller of the walk keeps between two calls are bytes (paper 02, W3): so these take `before` and the table, and
+// no form that is lent. `rows` may hold more than `count` rows: a slice of their length would ask more.
 
 /// The table of the form that they say.
-pub fn lay_table(before: &[u8], table: &mut [u64])
-    requires { FewIn before.now × (4352 ≤ length table.old) }
+pub fn lay_table(before: &[u8], table: &mut [Entry])
+    requires { FewIn before.now × (64 ≤ length table.old) }
     ensures { TableOf before.now table.new }
 {
     form_table::fill_table(&layout::form_of(before), table);
@@ -45,7 +47,7 @@ pub fn lay_table(before: &[u8], table: &mut [u64])
 pub fn walk_rows(
     before: &[u8],
     next: usize,
-    table: &[u64],
+    table: &[Entry],
     state: &mut [u8; STATE],
     rows: &[u8],
     count: usize,
@@ -55,19 +57,19 @@ pub fn walk_rows(
 {
     let t = FormTable {
         form: layout::form_of(before),
-        sets: table,
+        entries: table,
     };
     steps(&t, next, state, rows, count)
 }
 
 /// Whether the rows may end after a state.
-pub fn walk_ends(before: &[u8], table: &[u64], state: &[u8; STATE]) -> bool
+pub fn walk_ends(before: &[u8], table: &[Entry], state: &[u8; STATE]) -> bool
     requires { FewIn before.now × TableOf before.now table.now × (open_elements state.now ≤ 64) }
     ensures { result ≡ end (by_index before.now) state.now }
 {
     let t = FormTable {
         form: layout::form_of(before),
-        sets: table,
+        entries: table,
     };
     open_levels::end(&t, state)
 }
@@ -83,7 +85,7 @@ pub fn answer_from(
     requires { FewIn before.now × StateFits state.old × (row_size (width_of before.now) * count ≤ length rows.now) }
     ensures { result ≡ answer_from (before_with next before.now) state.old count rows.now }
 {
-    let mut table: [u64; form_table::TABLE] = [0; form_table::TABLE];
+    let mut table = [form_table::BLANK; form_table::TABLE];
     lay_table(before, &mut table);
     if !walk_rows(before, next, &table, state, rows, count) {
         return false;

@@ -1,7 +1,7 @@
 -- The state after a row, by the row's sort; it fits again.
 use Prim.Native.Nat.{ℕ, ◌+◌, ◌*◌, ◌≤◌}
 use native.Mathlib.Omega.{arith}
-use mathlib.Core.Path.{◌≡◌, refl, ap, ap₂, sym, ◌∙◌}
+use mathlib.Core.Path.{◌≡◌, refl, ap, ap₂, ◌∙◌}
 use mathlib.Core.Bool.{Bool, true, false}
 use lib.Dec.{eqb}
 use lib.ListN.{length, set, length-set}
@@ -28,15 +28,11 @@ module _ (s : Bytes) (x : Deep FlatRow) where
   stepped_text n m = ap₂ (stepped_as s x.depth x.row.index) (ne_eqb x.row.sort 1 n) (ne_eqb x.row.sort 2 m)
 
 -- .. as the code reads it
-module _ (s row : Bytes) {sort d i : ℕ} (es : sort ≡ (read_row row).row.sort) (ed : d ≡ (read_row row).depth) (ei : i ≡ (read_row row).row.index) {s' : Bytes} where
-  pub took_element : sort ≡ 1 → s' ≡ with_element s d i → s' ≡ stepped s (read_row row)
-  took_element h e = e ∙ ap₂ (with_element s) ed ei ∙ sym (stepped_element s (read_row row) (sym es ∙ h))
-
-  pub took_attribute : sort ≡ 2 → s' ≡ with_attribute s d i → s' ≡ stepped s (read_row row)
-  took_attribute h e = e ∙ ap₂ (with_attribute s) ed ei ∙ sym (stepped_attribute s (read_row row) (sym es ∙ h))
-
-  pub took_text : (sort ≡ 1 → ⊥) → (sort ≡ 2 → ⊥) → s' ≡ with_text s d i → s' ≡ stepped s (read_row row)
-  took_text n m e = e ∙ ap₂ (with_text s) ed ei ∙ sym (stepped_text s (read_row row) (λ z. n (es ∙ z)) (λ z. m (es ∙ z)))
+module _ (s row : Bytes) {d i : ℕ} (ed : d ≡ (read_row row).depth) (ei : i ≡ (read_row row).row.index) {s' : Bytes} where
+  pub took : (element attribute : Bool) → element ≡ eqb (read_row row).row.sort 1 → attribute ≡ eqb (read_row row).row.sort 2
+      → s' ≡ stepped_as s d i element attribute → s' ≡ stepped s (read_row row)
+  unfolding stepped
+  took element attribute x y e = e ∙ (λ j. stepped_as s (ed j) (ei j) (x j) (y j))
 
 -- it fits again
 open_set : (t : Bytes) (k : ℕ) → length t ≡ 130 → k ≤ 64 → StateFits (set t 0 k)

@@ -6,8 +6,11 @@ ghost use Rattle.rules.specs.Decode.{read_row};
 ghost use Rattle.row_state.specs.State.{seen_at, level_at, with_attribute, with_text, with_element, stepped, RoomFor};
 
 use next_row::{Level, OpenElement};
+use rules::RowSort;
 
 /// The bytes of the state; `specs/State.antt` says what stands where.
+// Bytes and no struct: paper 02, W3. The caller keeps the state between two calls, and the theorem `OnePass` says of it
+// that it is 130 bytes.
 pub const STATE: usize = 130;
 
 // ---- read
@@ -44,7 +47,7 @@ pub fn level_at(state: &[u8; STATE], k: usize) -> Level
 
 // After an attribute's row of depth d.
 fn take_attribute(state: &mut [u8; STATE], d: u8, index: u8)
-    requires { (length state.old ≡ 130) × (index < 64) }
+    requires { index < 64 }
     ensures { state.new ≡ with_attribute state.old d index }
 {
     state[1] = index + 2;
@@ -53,7 +56,7 @@ fn take_attribute(state: &mut [u8; STATE], d: u8, index: u8)
 
 // After a text's.
 fn take_text(state: &mut [u8; STATE], d: u8, index: u8)
-    requires { (length state.old ≡ 130) × (d ≤ 64) × (index < 64) }
+    requires { (d ≤ 64) × (index < 64) }
     ensures { state.new ≡ with_text state.old d index }
 {
     state[2 * (d as usize) + 1] = index + 1;
@@ -63,7 +66,7 @@ fn take_text(state: &mut [u8; STATE], d: u8, index: u8)
 
 // After an element's, which is open from here on.
 fn take_element(state: &mut [u8; STATE], d: u8, index: u8)
-    requires { (length state.old ≡ 130) × (d < 64) × (index < 64) }
+    requires { (d < 64) × (index < 64) }
     ensures { state.new ≡ with_element state.old d index }
 {
     let k = d as usize + 1;
@@ -76,17 +79,16 @@ fn take_element(state: &mut [u8; STATE], d: u8, index: u8)
 
 /// After a row.
 pub fn take_row(state: &mut [u8; STATE], row: &[u8])
-    requires { (length state.old ≡ 130) × RoomFor (read_row row.now) }
+    requires { RoomFor (read_row row.now) }
     ensures { state.new ≡ stepped state.old (read_row row.now) }
 {
     let d = layout::row_depth(row);
     let index = layout::row_index(row) as u8;
-    let sort = layout::row_sort(row);
-    if sort == 1 {
+    if next_row::is_of(row, RowSort::Element) {
         take_element(state, d, index);
         return;
     }
-    if sort == 2 {
+    if next_row::is_of(row, RowSort::Attribute) {
         take_attribute(state, d, index);
         return;
     }

@@ -12,6 +12,7 @@ ghost use Rattle.row_step.specs.Steps.{element_fits, before_by, StepMade};
 use form_table::FormTable;
 use next_row::Level;
 use row_state::STATE;
+use rules::RowSort;
 
 // Whether a row's serial is from 1 and below the next one, and an element's definition is one of n and fewer than 64
 // elements stand around it.
@@ -25,7 +26,7 @@ fn ranges_fit(n: usize, next: usize, row: &[u8]) -> bool
     if next <= serial {
         return false;
     }
-    if layout::row_sort(row) != 1 {
+    if !next_row::is_of(row, RowSort::Element) {
         return true;
     }
     let index = layout::row_index(row) as usize;

@@ -7,6 +7,7 @@ use Rattle.std.proofs.Common.{Bor}
 use Rattle.std.specs.Prelude.{Option, Some, option_map}
 use Rattle.std.proofs.lemmas.Iterator.Consumers.{nth_from_yields_List, YieldsList-from_first}
 use Rattle.rules.specs.Layout.{FlatRow}
+use Rattle.rules.specs.RowSorts.{row_number}
 use Rattle.document_rows.specs.Finding.{serial_in, children_at}
 use Rattle.document_rows.specs.Coming.{coming}
 use Rattle.document_rows.proofs.SerialLaws.{row_read, serial_got}
@@ -15,7 +16,7 @@ use Rattle.document_rows.proofs.nth_at.Goals as goal
 pub returns-in_err-row : goal.returns-in_err-row
 returns-in_err-row c =
     let a = c.args in
-    let all = children_at a.store.now a.sort a.i in
+    let all = children_at a.store.now (row_number a.sort) a.i in
     c.from_residual.ensures ∙ ap (λ (o : Option (Bor (List ℕ))). option_map serial_in (option_map row_read o)) (sym c.in_err-row.was)
     ∙ ap (λ (o : Option FlatRow). option_map serial_in o) (nth_from_yields_List c.nth.result c.nth.new.self a.n c.nth.ensures.ran (YieldsList-from_first row_read coming all c.children.ensures))
     ∙ serial_got a.n all
@@ -23,7 +24,7 @@ returns-in_err-row c =
 pub returns : goal.returns
 returns c =
     let a = c.args in
-    let all = children_at a.store.now a.sort a.i in
+    let all = children_at a.store.now (row_number a.sort) a.i in
     ap (λ (k : ℕ). Some k) c.row_serial.ensures ∙ ap (λ (o : Option (Bor (List ℕ))). option_map serial_in (option_map row_read o)) (sym c.in_ok-row.was)
     ∙ ap (λ (o : Option FlatRow). option_map serial_in o) (nth_from_yields_List c.nth.result c.nth.new.self a.n c.nth.ensures.ran (YieldsList-from_first row_read coming all c.children.ensures))
     ∙ serial_got a.n all

@@ -2,6 +2,7 @@
 -- (`seek_hit` of SuffixLaws), any before it is passed (`seek_past`), and past the last row there is none (`seek_none`).
 use mathlib.Core.Path.{sym, ap, ◌∙◌}
 use mathlib.Core.List.{List}
+use Prim.Native.Nat.{ℕ}
 use native.Mathlib.Omega.{arith}
 use Rattle.rules.specs.Bytes.{any}
 use Rattle.rules.specs.Layout.{FlatRow}
@@ -14,14 +15,16 @@ unfolding children_below
 returns-then-has_child c =
     let s = c.args.rows in
     seek_hit s.width (is_parent c.args.element) s.bytes.now s.count c.loop-i.i c.loop-i.invariant (omega arith)
-    (sym (c.has_child.ensures ∙ ap (λ (l : List FlatRow). any (element_row_with c.args.element) l) c.below.ensures) ∙ c.if-has_child.true)
+    (sym (c.has_child.ensures ∙ ap (λ (l : List FlatRow). any (element_row_with c.args.element) l)
+    (c.below.ensures ∙ ap (λ (k : ℕ). children_below s.width s.bytes.now s.count k c.loop-i.i) c.from.ensures)) ∙ c.if-has_child.true)
 
 pub loop-i-preserved : goal.loop-i-preserved
 unfolding children_below
 loop-i-preserved c =
     let s = c.args.rows in
     seek_past s.width (is_parent c.args.element) s.bytes.now s.count c.loop-i.i c.loop-i.invariant (omega arith)
-    (sym (c.has_child.ensures ∙ ap (λ (l : List FlatRow). any (element_row_with c.args.element) l) c.below.ensures) ∙ c.if-has_child.false)
+    (sym (c.has_child.ensures ∙ ap (λ (l : List FlatRow). any (element_row_with c.args.element) l)
+    (c.below.ensures ∙ ap (λ (k : ℕ). children_below s.width s.bytes.now s.count k c.loop-i.i) c.from.ensures)) ∙ c.if-has_child.false)
 
 pub returns : goal.returns
 returns c = seek_none _ _ _ _ _ c.loop-i.invariant (omega arith)

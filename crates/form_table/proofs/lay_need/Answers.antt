@@ -40,4 +40,4 @@ returns c =
     let present = c.must_be_present in
     need_put a.form.now a.j a.table.now owner.result present.result
     (λ i. needs_read a.form.now.width _ a.form.now.attributes.now a.j found a.form.now.version i _ _ _ _ owner.ensures code.ensures sort.ensures present.ensures)
-    (ap not c.if-not-must_be_present.false) (omega arith) c.requires.0.definitions c.requires.2 _ c.with.ensures
+    _ c.with.ensures (ap not c.if-not-must_be_present.false) (omega arith) c.requires.0.definitions c.requires.2

@@ -1,21 +1,24 @@
--- `next_children::fill` meets its contract: the entries of `fill_after`, and those written after it at 0, 65 and 66,
--- are the line of the model (`line_filled` of LineLaws). A write keeps the length of `t` (`length-set` of ListN), so
--- that each place is in range.
-use Rattle.model.specs.Members.{all_members}
-use Rattle.next_children.proofs.LineLaws.{line_filled}
+-- `next_children::fill` meets its contract: each step writes what follows the child x, and x into the last ones if no
+-- child is owed after it, which keeps the invariant (`lining_on` of LineLaws). It holds at first for no child
+-- (`lining_starts`), and at the end for all n (`lining_ends`).
 use native.Mathlib.Omega.{arith}
-use lib.ListN.{length-set}
+use Rattle.model.specs.Members.{all_members}
+use Rattle.next_children.proofs.LineLaws.{lining_starts, lining_on, lining_ends}
 use Rattle.next_children.proofs.fill.Goals as goal
 
-pub bounds-t-at-2 : goal.bounds-t-at-2
-bounds-t-at-2 c = simp length-set (omega arith)
+pub loop-x-init : goal.loop-x-init
+loop-x-init c =
+    lining_starts c.args.n (all_members c.args.ms.now) _ c.nexts_of-none.ensures c.args.line.now (omega arith)
 
-pub bounds-t-at-3 : goal.bounds-t-at-3
-bounds-t-at-3 c = simp length-set (omega arith)
+pub after_child-r-requires : goal.after_child-r-requires
+after_child-r-requires c =
+    (omega arith, c.names_in-names.ensures)
+
+pub loop-x-preserved : goal.loop-x-preserved
+loop-x-preserved c =
+    lining_on c.args.n (all_members c.args.ms.now) _ _ _ c.loop-x.invariant c.requires (omega arith) _ c.after_child-r.ensures _ _ _
+    c.bit.ensures c.given.ensures c.union-lasts.ensures
 
 pub returns : goal.returns
 returns c =
-    let a = c.args in
-    line_filled a.n (all_members a.ms.now) a.t.now a.at _ _ c.fill_after-ends.ensures
-    c.fill_after-ends.auto.t c.requires.0
-    c.requires.1 _ c.nexts_of-none.ensures _ c.given.ensures
+    lining_ends c.args.n (all_members c.args.ms.now) _ _ _ c.loop-x.invariant c.requires (omega arith)

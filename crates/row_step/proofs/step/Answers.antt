@@ -41,12 +41,10 @@ pub take_row-requires : goal.take_row-requires
 take_row-requires c =
     let a = c.args in
     let before = before_by a.next a.t.now.form in
-    let depth = c.row_depth-d in (
-      c.requires.long,
-      step_room before a.state.now a.row.now c.requires depth.result depth.ensures c.ranges_fit.ensures c.levels_end.ensures
-          c.level_at-l.ensures c.row_passes.ensures a.t.now.tabled.few.definitions a.t.now.tabled.few.attributes
-          (omega (arith, c.if-levels-d.false)) c.if-not-ranges_fit.false c.if-not-levels_end.false c.if-not-row_passes.false,
-    )
+    let depth = c.row_depth-d in
+    step_room before a.state.now a.row.now c.requires depth.result depth.ensures c.ranges_fit.ensures c.levels_end.ensures
+    c.level_at-l.ensures c.row_passes.ensures a.t.now.tabled.few.definitions a.t.now.tabled.few.attributes
+    (omega (arith, c.if-levels-d.false)) c.if-not-ranges_fit.false c.if-not-levels_end.false c.if-not-row_passes.false
 
 pub returns : goal.returns
 returns c =

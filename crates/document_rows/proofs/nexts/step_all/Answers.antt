@@ -1,8 +1,8 @@
--- `document_rows::nexts::Nexts::step_all` meets its contract: where the new child or the next one may not follow, all
+-- `document_rows::nexts::step_all` meets its contract: where the new child or the next one may not follow, all
 -- may not (`new_stops`, `child_stops` of StepLaws); else those after it decide (`child_steps`), and with none left a last
 -- new one (`last_steps`).
 use Rattle.document_rows.proofs.StepLaws.{new_stops, child_stops, child_steps, last_steps}
-use Rattle.document_rows.proofs.nexts.Nexts.step_all.Goals as goal
+use Rattle.document_rows.proofs.nexts.step_all.Goals as goal
 
 pub returns-in_err-fresh : goal.returns-in_err-fresh
 returns-in_err-fresh c = rw c.from_residual.ensures (new_stops c.loop-row.invariant c.in-Some.ensures.steps c.in_err-fresh.ensures)

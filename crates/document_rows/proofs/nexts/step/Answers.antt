@@ -1,8 +1,8 @@
--- `document_rows::nexts::Nexts::step` meets its contract: y is stepped over (`stepped_one` of StepLaws) or may not come
+-- `document_rows::nexts::step` meets its contract: y is stepped over (`stepped_one` of StepLaws) or may not come
 -- (`stepped_out`), as `follows` says.
 use mathlib.Core.Path.{refl, sym, ◌∙◌}
 use Rattle.document_rows.proofs.StepLaws.{stepped_one, stepped_out}
-use Rattle.document_rows.proofs.nexts.Nexts.step.Goals as goal
+use Rattle.document_rows.proofs.nexts.step.Goals as goal
 
 pub returns-then-follows : goal.returns-then-follows
 returns-then-follows c = stepped_one _ _ c.args.y _ refl (sym c.if-follows.true ∙ c.follows.ensures)

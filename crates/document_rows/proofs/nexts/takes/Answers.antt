@@ -1,7 +1,7 @@
--- `document_rows::nexts::Nexts::takes` meets its contract: where all the children are stepped over, the end decides
+-- `document_rows::nexts::takes` meets its contract: where all the children are stepped over, the end decides
 -- (`takes_all` of StepLaws), and else the model does not take them (`takes_none`).
 use Rattle.document_rows.proofs.StepLaws.{takes_all, takes_none}
-use Rattle.document_rows.proofs.nexts.Nexts.takes.Goals as goal
+use Rattle.document_rows.proofs.nexts.takes.Goals as goal
 
 pub returns-in-Some : goal.returns-in-Some
 returns-in-Some c = takes_all c.in-Some.ensures c.ends.ensures

@@ -25,7 +25,7 @@ fn put_end(opened: bool, out: &mut [u8], at: usize) -> usize
     at
 }
 
-// The value of a row, which is short: at most 300 bytes.
+// The value of a row, which is short: at most 300 bytes, as `layout::row_value` does not say.
 fn short_value(row: &[u8]) -> &[u8]
     requires { length row.now ≤ 300 }
     ensures { Named (read_row row.now).row.value result.now }
@@ -79,7 +79,8 @@ impl Printer<'_> {
     // Writes element row i with this name, and what is below it.
     #[cycle(put_element_put_row_put_rows)]
     fn put_element(&self, i: usize, depth: usize, name: &[u8], out: &mut [u8], at: usize) -> Walked
-        requires { TextRoom self.now.rows.count (i + 1) depth (at + 1000) × (i < self.now.rows.count) × (depth < 256) × (length name.now ≤ 300) }
+        requires { TextRoom self.now.rows.count (i + 1) depth (at + 1000) × (i < self.now.rows.count) × (depth < 256)
+            × (length name.now ≤ 300) }
         ensures { Enclosed (rows_coming self.now.rows)
             (element_text (names_of self.now.store.now) (attribute_names_of self.now.store.now) name.now
             (build (rows_coming self.now.rows (i + 1)) (suc depth)))
@@ -101,7 +102,8 @@ impl Printer<'_> {
     fn put_row(&self, i: usize, depth: usize, opened: bool, out: &mut [u8], at: usize) -> Walked
         requires { TextRoom self.now.rows.count i depth at × (i < self.now.rows.count) × (depth < 256) }
         ensures { Stepped (rows_coming self.now.rows)
-            (row_text (names_of self.now.store.now) (attribute_names_of self.now.store.now) opened (row_there self.now.rows i).row
+            (row_text (names_of self.now.store.now) (attribute_names_of self.now.store.now) opened
+            (row_there self.now.rows i).row
             (build (rows_coming self.now.rows (i + 1)) (suc depth)))
             self.now.rows.count i depth at out.old result.next result.at out.new }
     {
@@ -129,7 +131,8 @@ impl Printer<'_> {
     #[cycle(put_element_put_row_put_rows)]
     fn put_rows(&self, from: usize, depth: usize, out: &mut [u8], start: usize) -> Walked
         requires { TextRoom self.now.rows.count from depth start }
-        ensures { Passed (rows_coming self.now.rows) (rows_text (names_of self.now.store.now) (attribute_names_of self.now.store.now) true)
+        ensures { Passed (rows_coming self.now.rows)
+            (rows_text (names_of self.now.store.now) (attribute_names_of self.now.store.now) true)
             self.now.rows.count from depth start out.old result.next result.at out.new }
     {
         let mut at = start;
@@ -160,7 +163,8 @@ impl Printer<'_> {
     fn put_document(&self, i: usize, out: &mut [u8], at: usize) -> Walked
         requires { TextRoom self.now.rows.count i 0 at × (i < self.now.rows.count) }
         ensures { Stepped (rows_coming self.now.rows)
-            (document_text self.now.store.now (row_there self.now.rows i).row (build (rows_coming self.now.rows (i + 1)) 1))
+            (document_text self.now.store.now (row_there self.now.rows i).row
+            (build (rows_coming self.now.rows (i + 1)) 1))
             self.now.rows.count i 0 at out.old result.next result.at out.new }
     {
         let name = row_name_of(self.store, self.rows.row(i));

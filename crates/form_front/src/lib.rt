@@ -10,6 +10,7 @@ pub fn front_of(form: &[u8], text: &[u8]) -> Option<usize>
     requires { passes form.now ≡ true }
     ensures { FrontOf form.now text.now result }
 {
+    // As long as the longest text of a form, as there is no heap.
     let mut printed = [0; 24576];
     let length = printing::print_store(form, &mut printed);
     let front = printed.get(..length)?;

@@ -5,7 +5,7 @@ ghost use Rattle.std.specs.Prelude.{◌≡◌, ◌<◌};
 ghost use Rattle.rules.specs.Decode.{name_at};
 ghost use Rattle.printing_parts.specs.Parts.{Named, definition_part, particle_part, attribute_part, names_of, attribute_names_of};
 
-// ---- records
+// ---- records, by the names that the laws of the text have for their bytes, which layout's own calls do not say
 
 /// The bytes of definition i, counted from 0.
 pub fn definition(store: &[u8], i: usize) -> &[u8]
@@ -42,6 +42,7 @@ pub fn name_of(store: &[u8], i: usize) -> &[u8]
 }
 
 /// The name of attribute i, or none.
+// As `name_of`, of the other table: one for both would take the count, the record and its name, and be no shorter.
 pub fn attribute_name_of(store: &[u8], i: usize) -> &[u8]
     ensures { Named (name_at i (attribute_names_of store.now)) result.now }
 {

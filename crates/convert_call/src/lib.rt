@@ -9,7 +9,7 @@ ghost use Rattle.rules.specs.Given.{AnswersBy};
 
 use rules::Refusal;
 
-/// 6: converts `count` members from a place on into a group.
+/// 6: converts `count` members from a place on into a group. `sort` is the code that C gives.
 pub fn convert_to_group(
     store: &[u8],
     owner: u32,
@@ -21,6 +21,7 @@ pub fn convert_to_group(
     ensures { AnswersBy (outcome (convert_to_group owner place.now count sort) store.now (length out.old)) out.old
         result out.new }
 {
+    // By itself, as `remove_call` says of all changes of a model.
     if !store_check::passes(store) {
         return Err(Refusal::BadStore);
     }

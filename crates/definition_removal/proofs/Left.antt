@@ -29,7 +29,7 @@ use Rattle.definition_writer.specs.Bodies.{moved_particle, moved_row}
 use Rattle.definition_removal.specs.Bodies.{lowered, cut_out, particles_up_to, one_below, attributes_up_to, moved_attribute, CountWithin, Between, destroyed, header_left}
 use Rattle.store_laws.proofs.Encoded.{Encoded, encoded}
 use Rattle.layout.specs.Fields.{next_at}
-use Rattle.definition_removal.specs.declared.Range.{Range}
+use Rattle.std.specs.declared.ops.Range.{Range}
 
 -- ---- the bodies, read
 module _ (bs : Bytes) where
@@ -130,7 +130,7 @@ length_cut a b xs h k = omega (arith, length-append (take a xs) (drop (a + (b - 
 
 -- what is left of a body without a definition's records, each moved
 module _ {A : Type 0} (move : A → A) (xs : List A) (few : ℕ) (l : length xs ≤ few) where
-  left_counted : (P : ℕ → ℕ) (i : ℕ) {all n m : ℕ} {r : Range} → all ≡ length xs → Number all n → Between P i all r → m ≡ n - (r.end - r.start)
+  left_counted : (P : ℕ → ℕ) (i : ℕ) {all n m : ℕ} {r : Range ℕ} → all ≡ length xs → Number all n → Between P i all r → m ≡ n - (r.end - r.start)
       → CountWithin (length (map move (cut_out (P i) (P (suc i) - P i) xs))) few m
   left_counted P i k e s w =
       let z : length (map move (cut_out (P i) (P (suc i) - P i) xs)) ≡ length xs - (P (suc i) - P i) =
@@ -154,12 +154,12 @@ module _ (bs : Bytes) (p : passes bs ≡ true) (i : ℕ) (h : i < definition_cou
       let e : suc i - i ≡ 1 = omega arith in
       ap (λ (k : ℕ). length (cut_out i k f.definitions)) (sym e) ∙ length_cut i (suc i) f.definitions (omega arith) (omega (arith, x.definitions)) ∙ omega (arith, x.definitions)
 
-  pub models_left : {n m : ℕ} {r : Range} → Number (particle_count bs) n → Between (λ (k : ℕ). particles_up_to k f.definitions) i (particle_count bs) r
+  pub models_left : {n m : ℕ} {r : Range ℕ} → Number (particle_count bs) n → Between (λ (k : ℕ). particles_up_to k f.definitions) i (particle_count bs) r
       → m ≡ n - (r.end - r.start) → CountWithin (length (destroyed i f).particles) 256 m
   unfolding destroyed
   models_left e s w = left_counted (moved_particle (lowered (suc i) 1)) f.particles 256 x.few_particles (λ (k : ℕ). particles_up_to k f.definitions) i x.particles e s w
 
-  pub attributes_left : {n m : ℕ} {r : Range} → Number (attribute_count bs) n → Between (λ (k : ℕ). attributes_up_to k f.attributes) i (attribute_count bs) r
+  pub attributes_left : {n m : ℕ} {r : Range ℕ} → Number (attribute_count bs) n → Between (λ (k : ℕ). attributes_up_to k f.attributes) i (attribute_count bs) r
       → m ≡ n - (r.end - r.start) → CountWithin (length (destroyed i f).attributes) 64 m
   unfolding destroyed
   attributes_left e s w = left_counted (moved_attribute (lowered (suc i) 1)) f.attributes 64 x.few_attributes (λ (k : ℕ). attributes_up_to k f.attributes) i x.attributes e s w

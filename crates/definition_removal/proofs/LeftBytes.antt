@@ -36,12 +36,12 @@ use Rattle.definition_removal.proofs.Left.{definitions_left, rows_left_lem, few_
 use Rattle.planned_rows.proofs.FilledLaws.{stored_old}
 use Rattle.planned_rows.proofs.StillLaws.{rows_still}
 use Rattle.layout.specs.Fields.{next_at}
-use Rattle.definition_removal.specs.declared.Range.{Range}
+use Rattle.std.specs.declared.ops.Range.{Range}
 
 -- a body of records without those of definition i, each written again
 module _ {A : Type 0} (enc : A → Bytes) (size : ℕ) (sized : (y : A) → length (enc y) ≡ size) (record_of : Bytes → Bytes) (move : A → A) (again : (y : A) → record_of (enc y) ≡ enc (move y))
     (P : ℕ → ℕ) (i : ℕ) (xs : List A) where
-  left_laid : {all n : ℕ} {r : Range} {body tail out out₁ out₂ : Bytes} {at at₁ at₂ : ℕ} → body ≡ each enc xs → all ≡ length xs → Number all n → Between P i all r
+  left_laid : {all n : ℕ} {r : Range ℕ} {body tail out out₁ out₂ : Bytes} {at at₁ at₂ : ℕ} → body ≡ each enc xs → all ≡ length xs → Number all n → Between P i all r
       → tail ≡ drop (size * r.end) body → Laid (each_record record_of size r.start body) out at at₁ out₁ → Laid (each_record record_of size (n - r.end) tail) out₁ at₁ at₂ out₂
       → Laid (each enc (map move (cut_out (P i) (P (suc i) - P i) xs))) out at at₂ out₂
   left_laid {n = n} {r = r} {body = body} eb en ea s et u v =
@@ -83,7 +83,7 @@ module _ (bs : Bytes) (p : passes bs ≡ true) (i : ℕ) (h : i < definition_cou
   definitions_short = definition_table_short bs (omega (arith, x.definitions, x.few_definitions))
 
   -- ---- models and attributes
-  pub models_laid : {body : Bytes} {n : ℕ} {r : Range} {tail out out₁ out₂ : Bytes} {at at₁ at₂ : ℕ} → body ≡ particles_in bs → Number (particle_count bs) n
+  pub models_laid : {body : Bytes} {n : ℕ} {r : Range ℕ} {tail out out₁ out₂ : Bytes} {at at₁ at₂ : ℕ} → body ≡ particles_in bs → Number (particle_count bs) n
       → Between (λ (k : ℕ). particles_up_to k f.definitions) i (particle_count bs) r → tail ≡ drop (particle_size * r.end) body
       → Laid (each_record (particle_record g) particle_size r.start body) out at at₁ out₁ → Laid (each_record (particle_record g) particle_size (n - r.end) tail) out₁ at₁ at₂ out₂
       → Laid (each particle_bytes (destroyed i f).particles) out at at₂ out₂
@@ -93,7 +93,7 @@ module _ (bs : Bytes) (p : passes bs ≡ true) (i : ℕ) (h : i < definition_cou
       (eb ∙ particles_at_lem x) x.particles en s et u v
 
   -- w: the width as the code reads it
-  pub attributes_laid : {w : ℕ} {body : Bytes} {n : ℕ} {r : Range} {tail out out₁ out₂ : Bytes} {at at₁ at₂ : ℕ} → WidthIn bs w → body ≡ attributes_in bs → Number (attribute_count bs) n
+  pub attributes_laid : {w : ℕ} {body : Bytes} {n : ℕ} {r : Range ℕ} {tail out out₁ out₂ : Bytes} {at at₁ at₂ : ℕ} → WidthIn bs w → body ≡ attributes_in bs → Number (attribute_count bs) n
       → Between (λ (k : ℕ). attributes_up_to k f.attributes) i (attribute_count bs) r → tail ≡ drop (attribute_size w * r.end) body
       → Laid (each_record (attribute_record g) (attribute_size w) r.start body) out at at₁ out₁ → Laid (each_record (attribute_record g) (attribute_size w) (n - r.end) tail) out₁ at₁ at₂ out₂
       → Laid (each (attribute_bytes (width_of bs)) (destroyed i f).attributes) out at at₂ out₂
@@ -121,7 +121,7 @@ module _ (bs : Bytes) (p : passes bs ≡ true) (i : ℕ) (h : i < definition_cou
       ∙ (λ j. map (moved_row (lowered (add-one i j) 1) (lowered (eb j) (eb j - ea j))) f.rows))
 
   -- q: the plan that the code makes
-  pub rows_laid : {s : Range} {q : Plan} (v : Bytes) {out out₁ : Bytes} {at : ℕ} {r : Cursor} → Between (λ (k : ℕ). attributes_up_to k f.attributes) i (attribute_count bs) s
+  pub rows_laid : {s : Range ℕ} {q : Plan} (v : Bytes) {out out₁ : Bytes} {at : ℕ} {r : Cursor} → Between (λ (k : ℕ). attributes_up_to k f.attributes) i (attribute_count bs) s
       → q ≡ shifting (i + 1) s.end (s.end - s.start) → Written (width_of bs) (rows_after q v f) (walk_from at bs) out r out₁
       → Laid (each (row_bytes (width_of bs)) (destroyed i f).rows) out at r.at out₁
   rows_laid {s} {q} v c e w =

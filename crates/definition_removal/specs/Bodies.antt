@@ -11,7 +11,7 @@ use Rattle.layout.specs.Header.{headed}
 use Rattle.lookup.specs.Bodies.{bodies_of}
 use Rattle.definition_writer.specs.Bodies.{member_moved, moved_particle, moved_row}
 use Rattle.layout.specs.Fields.{next_at}
-use Rattle.definition_removal.specs.declared.Range.{Range}
+use Rattle.std.specs.declared.ops.Range.{Range}
 
 -- ---- what is left
 -- `less` entries before number `from` go: the numbers from there on fall
@@ -80,7 +80,7 @@ pub record CountWithin (count all r : ℕ) : Type 0 where
   pub most : r ≤ all
 
 -- the records of definition i in a body of `all`, where the first k definitions have P k of them
-pub record Between (P : ℕ → ℕ) (i all : ℕ) (r : Range) : Type 0 where
+pub record Between (P : ℕ → ℕ) (i all : ℕ) (r : Range ℕ) : Type 0 where
   pub first : CountWithin (P i) all r.start
   pub past : CountWithin (P (suc i)) all r.end
   pub order : r.start ≤ r.end

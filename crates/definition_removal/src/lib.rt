@@ -17,6 +17,11 @@ ghost use Rattle.definition_removal.specs.Shifting.{shifting};
 use filling::Filling;
 use row_walk::{Later, Plan, Shift, Which};
 use rules::RowSort;
+use std::ops::Range;
+
+// The sort of a particle that is an element. By `model::read_particle` its index, which is read and written as a byte,
+// would be a usize between.
+const ELEMENT: u8 = 0;
 
 // ---- indices
 
@@ -43,7 +48,7 @@ fn moved_member(sort: u8, index: u8, definition: u32) -> u8
     requires { definition ≤ 64 }
     ensures { result ≡ member_moved (lowered (suc definition) 1) sort index }
 {
-    if sort == 0 {
+    if sort == ELEMENT {
         return lower_byte(index, definition);
     }
     index
@@ -108,7 +113,7 @@ fn is_member(rec: &[u8], i: u32) -> bool
 {
     let sort = layout::particle_sort(rec);
     let index = layout::particle_index(rec) as u32;
-    (sort == 0) & (index == i)
+    (sort == ELEMENT) & (index == i)
 }
 
 // Whether a row is a document of definition i.
@@ -154,12 +159,8 @@ fn attributes_below(w: usize, body: &[u8], count: usize, i: u32) -> usize
 
 // ---- the bodies of a store
 
-// The records of a body that are of one definition: from number `start` on, before number `end`.
-#[derive(Clone, Copy)]
-struct Range {
-    start: usize,
-    end: usize,
-}
+// The records of a body that are of one definition are a range of numbers. In pairs, for particles and for attributes:
+// one function for both, with the count as a closure, is longer than the two by its bound and its clause.
 
 // How many particles the first i definitions have.
 fn model_start(store: &[u8], i: u32) -> usize
@@ -179,27 +180,23 @@ fn attribute_start(store: &[u8], i: u32) -> usize
 }
 
 // The particles of definition i.
-fn model_range(store: &[u8], i: u32) -> Range
+fn model_range(store: &[u8], i: u32) -> Range<usize>
     requires { Defined store.now i }
     ensures { Between (λ (k : ℕ). particles_up_to k (bodies_of store.now).definitions) i (particle_count store.now) result }
 {
-    let start = model_start(store, i);
-    let end = model_start(store, i + 1);
-    Range { start, end }
+    model_start(store, i)..model_start(store, i + 1)
 }
 
 // The attributes of definition i.
-fn attribute_range(store: &[u8], i: u32) -> Range
+fn attribute_range(store: &[u8], i: u32) -> Range<usize>
     requires { Defined store.now i }
     ensures { Between (λ (k : ℕ). attributes_up_to k (bodies_of store.now).attributes) i (attribute_count store.now) result }
 {
-    let start = attribute_start(store, i);
-    let end = attribute_start(store, i + 1);
-    Range { start, end }
+    attribute_start(store, i)..attribute_start(store, i + 1)
 }
 
 // How many of `all` records are left without those of a range.
-fn count_left(all: usize, range: Range) -> usize
+fn count_left(all: usize, range: Range<usize>) -> usize
     requires { (range.start ≤ range.end) × (range.end ≤ all) }
     ensures { result ≡ all - (range.end - range.start) }
 {
@@ -211,8 +208,7 @@ pub fn particles_left(store: &[u8], i: u32) -> usize
     requires { Defined store.now i }
     ensures { CountWithin (length (destroyed i (bodies_of store.now)).particles) 256 result }
 {
-    let own = model_range(store, i);
-    count_left(layout::particle_count(store), own)
+    count_left(layout::particle_count(store), model_range(store, i))
 }
 
 /// How many attributes are left without definition i.
@@ -220,8 +216,7 @@ pub fn attributes_left(store: &[u8], i: u32) -> usize
     requires { Defined store.now i }
     ensures { CountWithin (length (destroyed i (bodies_of store.now)).attributes) 64 result }
 {
-    let own = attribute_range(store, i);
-    count_left(layout::attribute_count(store), own)
+    count_left(layout::attribute_count(store), attribute_range(store, i))
 }
 
 // ---- what is left of a store without definition i

@@ -18,6 +18,7 @@ pub fn flatten_group(
 ) -> Result<usize, Refusal>
     ensures { AnswersBy (outcome (flatten_group owner place.now) store.now (length out.old)) out.old result out.new }
 {
+    // By itself, as `remove_call` says of all changes of a model.
     if !store_check::passes(store) {
         return Err(Refusal::BadStore);
     }

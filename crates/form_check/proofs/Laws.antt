@@ -27,7 +27,8 @@ any_listed test [] = refl
 any_listed test (j ∷ js) = ap (λ (b : Bool). test j || b) (any_listed test js)
 
 -- no number from i on clashes with a later one
-pub none_apart : (clash : ℕ → ℕ → Bool) (n k i : ℕ) → i + k ≡ n → not (list_any (λ (j : ℕ). list_any (clash j) (range_with_len (j + 1) (n - (j + 1)))) (range_with_len i k)) ≡ apart clash (range_with_len i k)
+pub none_apart : (clash : ℕ → ℕ → Bool) (n k i : ℕ) → i + k ≡ n
+    → not (list_any (λ (j : ℕ). list_any (clash j) (range_with_len (j + 1) (n - (j + 1)))) (range_with_len i k)) ≡ apart clash (range_with_len i k)
 unfolding apart
 none_apart clash n zero i e = refl
 none_apart clash n (suc k) i e =

@@ -11,6 +11,7 @@ use model_writer::Edit;
 use rules::{Quantifier, Refusal};
 
 /// 3: inserts an element into a model; on the spine each instance gets a filling if the quantifier needs one.
+/// `quantifier` is the code that C gives.
 pub fn insert_element(
     store: &[u8],
     owner: u32,
@@ -24,6 +25,7 @@ pub fn insert_element(
         (outcome (insert_element owner place.now definition quantifier text.now) store.now (length out.old))
         out.old result out.new }
 {
+    // By itself, as `remove_call` says of all changes of a model.
     if !store_check::passes(store) {
         return Err(Refusal::BadStore);
     }

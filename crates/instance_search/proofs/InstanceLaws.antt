@@ -1,9 +1,8 @@
 -- An instance of a definition exists: said by its name, and by its index.
 use Prim.Native.Nat.{ℕ, suc, ◌<◌}
 use mathlib.Core.Path.{◌≡◌, refl, sym, ap, ap₂, ◌∙◌}
-use mathlib.Core.Bool.{Bool, true, false, ◌&&◌, ◌||◌}
+use mathlib.Core.Bool.{Bool, true, false, ◌||◌}
 use mathlib.Core.List.{[], ◌∷◌, map}
-use lib.Dec.{eqb}
 use lib.ListN.{length}
 use Rattle.std.specs.Prelude.{Result}
 use Rattle.rules.specs.Bytes.{Bytes, any}
@@ -45,11 +44,7 @@ instance_is bs w o l =
     ap (any (instance_row o)) (sym (from_all read_row (row_size (width_of bs)) (tree_rows_in bs) (row_count bs) 0) ∙ w.rows)
     ∙ rows_have (form_in bs) w.good.form.names o l 0 [] 0 (docs_in bs)
 
--- ---- the loop over the rows
-pub instance_row_lem : (o : ℕ) (at : Bytes) {row : Bytes} {index : ℕ} {element : Bool} → row ≡ at → element ≡ eqb (read_row row).row.sort 1 → index ≡ (read_row row).row.index
-    → (element && eqb index o) ≡ instance_row o (read_row at)
-instance_row_lem o at {row} e s x = ap₂ (λ (a : Bool) (b : ℕ). a && eqb b o) s x ∙ ap (λ (z : Bytes). instance_row o (read_row z)) e
-
+-- ---- what is read is the store's
 pub instances_any : (bs : Bytes) (o : ℕ) {w count : ℕ} {rows : Bytes} {r : Bool} → WidthIn bs w → Number (row_count bs) count → rows ≡ tree_rows_in bs
     → r ≡ any (instance_row o) (read_many read_row (row_size w) count rows)
     → r ≡ any (instance_row o) (read_many read_row (row_size (width_of bs)) (row_count bs) (tree_rows_in bs))

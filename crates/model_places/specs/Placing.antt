@@ -86,7 +86,3 @@ pub record Picking (bs : Bytes) (o : ℕ) (place : List ℕ) (r : Maybe Picked) 
 abbrev pub Finds : Bytes → ℕ → Bool → List ℕ → Result Found Refusal → Type 0
 Finds bs o insert place (Ok f) = Placed bs o insert place f.holder f.particle
 Finds bs o insert place (Err e) = Unit {0}
-
-abbrev pub one_if : Bool → ℕ
-one_if true = 1
-one_if false = 0

@@ -6,7 +6,7 @@ ghost use Rattle.rules.specs.Layout.{how_many};
 ghost use Rattle.rules.specs.Decode.{definition_count};
 ghost use Rattle.rules.specs.Passing.{passes};
 ghost use Rattle.model.specs.Members.{members_from};
-ghost use Rattle.model_places.specs.Placing.{part_in, Picking, one_if};
+ghost use Rattle.model_places.specs.Placing.{part_in, Picking};
 
 use layout::PARTICLE_SIZE;
 use model::Particle;
@@ -40,23 +40,12 @@ pub fn pick(store: &[u8], owner: u32, place: &[u32]) -> Option<Picked>
     Some(Picked { place, member })
 }
 
-fn one_if(b: bool) -> usize
-    ensures { result ≡ one_if b }
-{
-    if b { 1 } else { 0 }
-}
-
 /// How many members of depth d s begins with.
 pub fn count_members(s: &[u8], d: usize) -> usize
     ensures { result ≡ how_many (members_from d s.now) }
 {
-    let mut n = 0;
-    for particle in s.chunks_exact(PARTICLE_SIZE) {
-        let depth = layout::particle_depth(particle) as usize;
-        if depth < d {
-            return n;
-        }
-        n += one_if(depth == d);
-    }
-    n
+    s.chunks_exact(PARTICLE_SIZE)
+        .take_while(|particle| d <= layout::particle_depth(particle) as usize)
+        .filter(|particle| layout::particle_depth(particle) as usize == d)
+        .count()
 }

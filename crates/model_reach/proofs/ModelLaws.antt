@@ -3,15 +3,14 @@ use Prim.Native.Nat.{ℕ, zero, suc, ◌<◌}
 use native.Mathlib.Omega.{arith}
 use mathlib.Core.Path.{◌≡◌, refl, sym, ap, ap₂, ◌∙◌, subst}
 use mathlib.Core.Bool.{Bool, true, false, not, ◌&&◌, ◌||◌, not-not}
-use mathlib.Core.List.{List, [], ◌∷◌, ◌++◌, map, Memᴰ}
+use mathlib.Core.List.{List, [], ◌∷◌, map, Memᴰ}
 use borrow.Author.Tests.{ne_eqb}
 use lib.Dec.{eqb}
-use lib.ListN.{length, drop, get_or}
+use lib.ListN.{length, get_or}
 use Rattle.rules.specs.Bytes.{Bytes, same, bytes, all}
 use Rattle.rules.specs.Model.{names, member}
 use Rattle.rules.specs.Store.{members}
-use Rattle.rules.specs.Preorder.{Deep}
-use Rattle.rules.specs.Layout.{value_width, particle_size, FlatParticle}
+use Rattle.rules.specs.Layout.{value_width}
 use Rattle.rules.specs.Decode.{name_at, read_particle, definition_count}
 use Rattle.rules.specs.WellFormed.{names_in, Reaches, reaches_in}
 use Rattle.rules.specs.Change.{definition_at}
@@ -21,11 +20,9 @@ use Rattle.model.specs.declared.What.{What}
 use Rattle.model.specs.declared.What.TheVariants.{Element, Group}
 use Rattle.model.specs.declared.Particle.{Particle}
 use Rattle.model.specs.Particle.{what_of, particle_of}
-use Rattle.model.proofs.ChunkLaws.{Front, front}
 use Rattle.circle_check.specs.Members.{elements_of, members_in}
 use Rattle.circle_check.specs.Deep.{has_height, first_passes}
 use Rattle.circle_check.specs.Avoiding.{Avoids}
-use Rattle.circle_check.proofs.MemberLaws.{elements_more}
 use Rattle.circle_check.proofs.CircleLaws.{members_named}
 use Rattle.form_index.specs.Reading.{model_part, by_index}
 use Rattle.store_check.proofs.IndexLaws.{names_of, lookup_at, name_of_lem}
@@ -38,19 +35,6 @@ use Rattle.model_reach.proofs.FormFacts.{Reads}
 use Rattle.model_reach.proofs.ReachLaws.{avoided}
 
 -- ---- one particle
--- x is the first particle of t, and s is what follows it
-pub first_and_rest : (p : ℕ → Bool) (t x s : Bytes) → t ≡ x ++ s → length x ≡ particle_size → all p (elements_of t) ≡ (first_passes p x && all p (elements_of s))
-first_and_rest p t x s e h =
-    let w : Front t x s = front t x s e h in
-    ap (all p) (elements_more t w.long) ∙ by (eqb (read_particle t).row.sort 0)
-    ∙ ap₂ (λ (b c : Bool). b && c) (ap (λ (q : Deep FlatParticle). elim (eqb q.row.sort 0) [ true ↦ p q.row.index | false ↦ true ]) (sym w.reads))
-    (ap (λ (z : Bytes). all p (elements_of z)) (sym w.rest))
-  where
-    by : (b : Bool) → all p (elim b [ true ↦ (read_particle t).row.index ∷ elements_of (drop particle_size t) | false ↦ elements_of (drop particle_size t) ])
-        ≡ (elim b [ true ↦ p (read_particle t).row.index | false ↦ true ] && all p (elements_of (drop particle_size t)))
-    by true = refl
-    by false = refl
-
 abbrev is_this : ℕ → What → Bool
 is_this i (Element j) = eqb i j
 is_this i (Group k n) = false

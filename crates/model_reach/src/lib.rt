@@ -27,12 +27,8 @@ fn is_element(particle: &[u8], i: usize) -> bool
 fn lacks(part: &[u8], i: usize) -> bool
     ensures { result ≡ all (λ j. not (eqb i j)) (elements_of part.now) }
 {
-    for particle in part.chunks_exact(PARTICLE_SIZE) {
-        if is_element(particle, i) {
-            return false;
-        }
-    }
-    true
+    part.chunks_exact(PARTICLE_SIZE)
+        .all(|particle| !is_element(particle, i))
 }
 
 /// Whether definition i stands in the model of definition o.

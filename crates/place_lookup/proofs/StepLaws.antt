@@ -1,5 +1,5 @@
--- A particle passed, as `chunks_exact` gives it: the loops of `reach` and `span`.
-use Prim.Native.Nat.{ℕ, ◌+◌, ◌-◌, ◌<◌, ◌≤◌}
+-- A particle passed, as `chunks_exact` gives it: the loop of `reach`.
+use Prim.Native.Nat.{ℕ, ◌+◌, ◌-◌, ◌<◌}
 use mathlib.Core.Path.{◌≡◌, sym, ap, ◌∙◌, subst}
 use lib.ListN.{length, take, drop}
 use Rattle.rules.specs.Bytes.{Bytes}
@@ -11,7 +11,7 @@ use Rattle.model.specs.declared.place.Reached.{Reached}
 use Rattle.model.specs.declared.place.Reached.TheVariants.{Member}
 use Rattle.model.specs.Places.{onward, ended}
 use Rattle.model.proofs.ChunkLaws.{Front}
-use Rattle.model.proofs.PlacesLaws.{Left, left_stop, left_member, left_pass, left_deeper, Deeper, deeper_stop, deeper_on}
+use Rattle.model.proofs.PlacesLaws.{Left, left_stop, left_member, left_pass, left_deeper}
 
 module _ {t x s : Bytes} (first : Front t x s) where
   rest_is : take (length t - particle_size) (drop particle_size t) ≡ s
@@ -33,10 +33,3 @@ module _ {t x s : Bytes} (first : Front t x s) where
 
       pub chunk_deeper : d < depth → Left goal bound d s (p + 1) n
       chunk_deeper k = subst (λ (b : Bytes). Left goal bound d b (p + 1) n) rest_is (left_deeper goal bound d t p depth first.long depth_is n k l)
-
-    module _ {goal bound d n : ℕ} (l : Deeper goal bound d t n) where
-      pub span_stop : depth ≤ d → n ≡ goal
-      span_stop k = deeper_stop goal bound d t n l depth first.long depth_is k
-
-      pub span_on : d < depth → Deeper goal bound d s (n + 1)
-      span_on k = subst (λ (b : Bytes). Deeper goal bound d b (n + 1)) rest_is (deeper_on goal bound d t n l depth first.long depth_is k)

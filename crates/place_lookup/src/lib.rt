@@ -50,15 +50,9 @@ fn reach(s: &[u8], d: usize, n: usize) -> Reached
 pub fn span(s: &[u8], d: usize) -> usize
     ensures { result ≡ span_of d (particles_of s.now) }
 {
-    let mut n = 0;
-    for particle in s.chunks_exact(PARTICLE_SIZE) {
-        let depth = layout::particle_depth(particle) as usize;
-        if depth <= d {
-            return n;
-        }
-        n += 1;
-    }
-    n
+    s.chunks_exact(PARTICLE_SIZE)
+        .take_while(|particle| d < layout::particle_depth(particle) as usize)
+        .count()
 }
 
 fn plain(q: Quantifier, kind: GroupKind) -> bool
@@ -100,6 +94,8 @@ fn gap_after(s: &[u8], n: usize, h: Holder) -> Option<Found>
     }
 }
 
+// By a flag: this step as a closure would go through each call of `find_in`, which only hands it on, and its clause
+// would be that of both functions at once.
 fn last_of(s: &[u8], n: usize, insert: bool, h: Holder) -> Option<Found>
     requires { h.start + length s.now < 2 ^ 64 }
     ensures { result ≡ last_of insert n h (particles_of s.now) }

@@ -10,7 +10,7 @@ ghost use Rattle.quantifier_refusals.specs.Requantifying.{requantify};
 use model_writer::Edit;
 use rules::{Quantifier, Refusal};
 
-/// 5 and 8: changes the quantifier of an element, or of a group.
+/// 5 and 8: changes the quantifier of an element, or of a group. `quantifier` is the code that C gives.
 pub fn requantify(
     store: &[u8],
     owner: u32,
@@ -24,6 +24,7 @@ pub fn requantify(
         (outcome (requantify group owner place.now quantifier text.now) store.now (length out.old))
         out.old result out.new }
 {
+    // By itself, as `remove_call` says of all changes of a model.
     if !store_check::passes(store) {
         return Err(Refusal::BadStore);
     }

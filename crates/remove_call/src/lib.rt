@@ -19,6 +19,8 @@ pub fn remove_element(
 ) -> Result<usize, Refusal>
     ensures { AnswersBy (outcome (remove_element owner place.now) store.now (length out.old)) out.old result out.new }
 {
+    // The check, the place and the edit, as in the changes 3 and 5 to 8. One function for all would take the refusal,
+    // the edit and the plan as closures, and ask of them in its clause what `edit_model` asks: no shorter than these.
     if !store_check::passes(store) {
         return Err(Refusal::BadStore);
     }

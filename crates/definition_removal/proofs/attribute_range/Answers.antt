@@ -20,4 +20,4 @@ returns c =
     let a = c.args in
     let xs = (bodies_of a.store.now).attributes in
     between (λ (k : ℕ). attributes_up_to k xs) a.i (attribute_count a.store.now) (attributes_step a.i xs)
-    c.attribute_start-start.ensures c.attribute_start-end.ensures
+    c.attribute_start.ensures c.attribute_start-2.ensures

@@ -6,9 +6,9 @@ use native.Mathlib.Omega.{arith}
 use Rattle.definition_removal.proofs.attributes_left.Goals as goal
 
 pub count_left-requires : goal.count_left-requires
-count_left-requires c = let own = c.attribute_range-own.ensures in (own.order, omega (arith, own.past.most, c.attribute_count.ensures.value))
+count_left-requires c = let own = c.attribute_range.ensures in (own.order, omega (arith, own.past.most, c.attribute_count.ensures.value))
 
 pub returns : goal.returns
 returns c =
     let a = c.args in
-    attributes_left a.store.now c.requires.good a.i c.requires.there c.attribute_count.ensures c.attribute_range-own.ensures c.count_left.ensures
+    attributes_left a.store.now c.requires.good a.i c.requires.there c.attribute_count.ensures c.attribute_range.ensures c.count_left.ensures

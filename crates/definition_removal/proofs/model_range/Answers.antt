@@ -19,4 +19,4 @@ pub returns : goal.returns
 returns c =
     let a = c.args in
     let xs = (bodies_of a.store.now).definitions in
-    between (λ (k : ℕ). particles_up_to k xs) a.i (particle_count a.store.now) (particles_step a.i xs) c.model_start-start.ensures c.model_start-end.ensures
+    between (λ (k : ℕ). particles_up_to k xs) a.i (particle_count a.store.now) (particles_step a.i xs) c.model_start.ensures c.model_start-2.ensures

@@ -7,4 +7,8 @@ use Rattle.model_check.specs.Particles.{particles_read}
 use Rattle.form_check.proofs.models_fit.Given as goal
 
 abbrev pub invariant-loop-i : goal.invariant-loop-i
-invariant-loop-i l = (l.at ≤ l.form.particle_count) × (models_fit l.form.definition_count (drop l.i (definitions_of l.form)) (drop l.at (particles_read l.form.particle_count l.form.particles.now)) ≡ models_fit l.form.definition_count (definitions_of l.form) (particles_read l.form.particle_count l.form.particles.now))
+invariant-loop-i l =
+    let n = l.form.definition_count in
+    let particles = particles_read l.form.particle_count l.form.particles.now in
+    (l.at ≤ l.form.particle_count)
+    × (models_fit n (drop l.i (definitions_of l.form)) (drop l.at particles) ≡ models_fit n (definitions_of l.form) particles)

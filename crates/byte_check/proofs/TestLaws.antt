@@ -1,13 +1,13 @@
 -- What a loop that tests each byte has left, from byte i on.
-use Prim.Native.Nat.{ℕ, ◌+◌, ◌≤◌, ◌<◌}
+use Prim.Native.Nat.{ℕ, zero, suc, ◌+◌, ◌-◌, ◌≤◌, ◌<◌}
 use native.Mathlib.Numerals.{add-one}
 use native.Mathlib.Omega.{arith}
-use mathlib.Core.List.{List, [], ◌∷◌}
+use mathlib.Core.List.{List, [], ◌∷◌, ◌++◌}
 use Rattle.std.specs.List.{list_all}
 use mathlib.Core.Path.{◌≡◌, refl, sym, ap, ap₂, ◌∙◌}
 use mathlib.Core.Bool.{Bool, true, false, ◌&&◌}
-use lib.ListN.{length, take, drop, get_or, length-drop, take-append-drop, drop_of_length-le}
-use lib.Seq.{drop-cons, take_all, take-add, take-take}
+use lib.ListN.{length, take, drop, get_or, length-take, length-drop, length-append, take-append-drop, drop_of_length-le}
+use lib.Seq.{drop-cons, drop-drop, take_all, take-add, take-take, take-append_seam, drop-append_seam}
 use Rattle.rules.specs.Bytes.{Bytes, all}
 use Rattle.rules.proofs.Words.{and_split}
 use Rattle.rules.proofs.BooleanLaws.{all_append}
@@ -59,3 +59,45 @@ module _ (p : ℕ → Bool) where
         let front : all p (take at bs) ≡ true = ap (all p) (sym (take-take at i bs h)) ∙ passed in
         let last : take k (drop at bs) ≡ drop at bs = take_all k (drop at bs) (omega (arith, length-drop at bs)) in
         e ∙ ap (all p) last ∙ sym (all_cut at bs ∙ ap (λ (x : Bool). x && all p (drop at bs)) front)
+
+-- n bytes inside the first k
+inner : (n i k : ℕ) (bs : Bytes) → i + n ≤ k → take n (drop i (take k bs)) ≡ take n (drop i bs)
+inner n zero k bs h = take-take n k bs (omega (arith, h))
+inner n (suc i) zero bs h = absurd (omega arith)
+inner n (suc i) (suc k) [] h = refl
+inner n (suc i) (suc k) (x ∷ bs) h = inner n i k bs (omega (arith, h))
+
+-- rest are the last of all bytes but one, and those before it pass
+pub record Eights (p : ℕ → Bool) (bs rest : Bytes) : Type 0 where
+  pub tested : ℕ
+  pub rest_is : rest ≡ drop tested (take (length bs - 1) bs)
+  pub inside : tested + length rest ≡ length bs - 1
+  pub passed : all p (take tested bs) ≡ true
+
+pub eights_all : (p : ℕ → Bool) (bs : Bytes) → Eights p bs (take (length bs - 1) bs)
+eights_all p bs = record { tested = 0; rest_is = refl; inside = omega (arith, length-take (length bs - 1) bs); passed = refl }
+
+module _ {p : ℕ → Bool} {bs rest : Bytes} (l : Eights p bs rest) where
+  module _ (x later : Bytes) (e : rest ≡ x ++ later) (h : length x ≡ 8) {b : Bool} (t : b ≡ all p x) where
+    long : length rest ≡ 8 + length later
+    long = omega (arith, ap (λ (ys : Bytes). length ys) e, length-append x later, h)
+
+    part_is : x ≡ take 8 (drop l.tested bs)
+    part_is =
+        sym (ap (λ (k : ℕ). take k (x ++ later)) (sym h) ∙ take-append_seam x later) ∙ ap (take 8) (sym e ∙ l.rest_is)
+        ∙ inner 8 l.tested (length bs - 1) bs (omega (arith, l.inside, long))
+
+    pub eights_off : b ≡ false → false ≡ all p bs
+    eights_off f = part_off p bs l.tested l.passed 8 (t ∙ ap (all p) part_is) f
+
+    pub eights_on : b ≡ true → Eights p bs later
+    eights_on f =
+        record {
+          tested = l.tested + 8;
+          rest_is = sym (drop-append_seam x later) ∙ ap (λ (k : ℕ). drop k (x ++ later)) h ∙ ap (drop 8) (sym e ∙ l.rest_is) ∙ drop-drop 8 l.tested (take (length bs - 1) bs);
+          inside = omega (arith, l.inside, long);
+          passed = part_on p bs l.tested l.passed 8 (t ∙ ap (all p) part_is) f;
+        }
+
+  pub eights_end : length rest < 8 → 8 ≤ length bs → {b : Bool} → b ≡ all p (take 8 (drop (length bs - 8) bs)) → b ≡ all p bs
+  eights_end h k e = part_end p bs l.tested l.passed (length bs - 8) 8 (omega (arith, l.inside)) (omega arith) e

@@ -79,21 +79,21 @@ pub fn times(size: usize, n: usize) -> usize
 pub fn least(a: usize, b: usize) -> usize
     ensures { result ≡ min a b }
 {
-    if a < b { a } else { b }
+    a.min(b)
 }
 
 /// a - b, or 0.
 pub fn minus(a: usize, b: usize) -> usize
     ensures { result ≡ a - b }
 {
-    if b < a { a - b } else { 0 }
+    a.saturating_sub(b)
 }
 
 /// The number that a byte is.
 pub fn wide(x: u8) -> usize
     ensures { result ≡ x }
 {
-    x as usize
+    usize::from(x)
 }
 
 // ---- sizes
@@ -155,7 +155,8 @@ pub fn row_at(w: usize, rows: &[u8], i: usize) -> &[u8]
     record_at(rows, 12 + w, i)
 }
 
-// ---- the fields of a definition
+// ---- the fields of a definition. Names and values by a function each, of one line: one for all would take two places,
+// which each call would write as numbers.
 
 pub fn definition_name(rec: &[u8]) -> &[u8]
     ensures { result.now ≡ (read_definition rec.now).name }
@@ -533,6 +534,9 @@ pub fn row_body(store: &[u8], s: Shape) -> &[u8]
     window(store, start, times(12 + s.width, s.rows))
 }
 
+// The four bodies by a function each, of two lines: one for all would take the reader of the body, and its clause be that
+// of any reader.
+
 /// The definitions of a store, by its own header.
 pub fn definitions_of(store: &[u8]) -> &[u8]
     ensures { result.now ≡ definitions_in store.now }
@@ -721,7 +725,8 @@ pub fn particles_part(parts: &[u8], at: usize, n: usize) -> &[u8]
     codec::part(parts, PARTICLE_SIZE * at, PARTICLE_SIZE * n)
 }
 
-// ---- fields of record i, read where they stand in the body: loops over all particles take them so, for one test each
+// ---- fields of record i, read where they stand in the body: loops over all particles take them so, for one test each.
+// One for all would take the field's place in the record, which each call would write as a number.
 
 pub fn particle_sort_at(parts: &[u8], i: usize) -> usize
     requires { i < 4294967296 }

@@ -11,7 +11,7 @@ ghost use Rattle.rules.specs.Filling.{created_value};
 ghost use Rattle.layout.specs.Bodies.{Width};
 ghost use Rattle.records.specs.Records.{filled, name_fits, value_fits, definition_fits, attribute_fits, row_fits, each_fits};
 
-use rules::AttributeSort;
+use rules::{AttributeSort, RowSort};
 
 // ---- names and values
 
@@ -89,6 +89,7 @@ fn value_fits(w: usize, rec: &[u8], at: usize, used: usize) -> bool
 // ---- records
 
 /// Whether a record is a definition's.
+// By the bytes of kinds and sorts here and below: the enums have no variant for a byte that is refused.
 pub fn definition_fits(rec: &[u8]) -> bool
     ensures { result ≡ definition_fits rec.now }
 {
@@ -121,16 +122,19 @@ pub fn row_fits(w: usize, rec: &[u8]) -> bool
     if !layout::unused_fit(w, rec) {
         return false;
     }
-    let sort = layout::row_sort(rec);
+    let sort = layout::row_sort_of(rec);
     let used = layout::row_length(rec);
-    if sort == 1 {
+    let element = sort == Some(RowSort::Element);
+    if element {
         if used != 0 {
             return false;
         }
         return filled(rec, layout::ROW_VALUE, 0, w);
     }
+    let attribute = sort == Some(RowSort::Attribute);
+    let text = sort == Some(RowSort::Text);
     let index = layout::row_index(rec);
-    if !((sort == 2) | ((sort == 3) & (index == 0))) {
+    if !(attribute | (text & (index == 0))) {
         return false;
     }
     if !is_value(w, codec::first(codec::after(rec, layout::ROW_VALUE), used)) {

@@ -57,7 +57,10 @@ fn parent_at(rows: Rows, element: u32) -> Option<usize>
     ensures { Begins rows.entry.width rows.entry.bytes.now rows.entry.count result (seek (is_parent element) (rows_from rows.entry.width rows.entry.bytes.now rows.entry.count 0)) }
 {
     for i in 0..rows.count {
-        if has_child(Children::below(rows, i, u8::from(RowSort::Element)), element) {
+        if has_child(
+            Children::below(rows, i, u8::from(RowSort::Element)),
+            element,
+        ) {
             return Some(i);
         }
     }

@@ -27,6 +27,17 @@ unfoldable pub children : ℕ → ℕ → List (Deep FlatRow) → List FlatRow
 children s d [] = []
 children s d (x ∷ xs) = elim (ltb x.depth d) [ true ↦ [] | false ↦ elim (eqb x.depth d && eqb x.row.sort s) [ true ↦ x.row ∷ children s d xs | false ↦ children s d xs ] ]
 
+-- row number i is the first of them from number `start` on
+pub record ChildAt (w s d : ℕ) (rows : Bytes) (count start i : ℕ) : Type 0 where
+  pub same : children s d (rows_from w rows count i) ≡ children s d (rows_from w rows count start)
+  pub head : children s d (rows_from w rows count i) ≡ (read_row (record_at (row_size w) i rows)).row ∷ children s d (rows_from w rows count (i + 1))
+  pub onward : start ≤ i
+  pub within : i < count
+
+-- its number; none where there is no such row
+abbrev pub NextChild : ℕ → ℕ → ℕ → Bytes → ℕ → ℕ → Option ℕ → Type 0
+NextChild w s d rows count start r = MatchOption r (children s d (rows_from w rows count start) ≡ []) (λ i. ChildAt w s d rows count start i)
+
 -- an element row with a serial
 abbrev pub element_row_with : ℕ → FlatRow → Bool
 element_row_with k r = eqb r.sort 1 && eqb r.serial k

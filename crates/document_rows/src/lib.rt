@@ -13,28 +13,33 @@ ghost use Rattle.rules.specs.RowSorts.{row_number};
 ghost use Rattle.layout.specs.Bodies.{width_of, record_at, attributes_in, tree_rows_in};
 ghost use Rattle.form_index.specs.Reading.{attribute_in};
 ghost use Rattle.store_laws.specs.Stores.{store_in};
+ghost use Rattle.model.specs.Members.{all_members};
+ghost use Rattle.model.specs.Steps.{runs};
 ghost use Rattle.document_rows.specs.Finding.{Begins, ElementRowAt, ParentAt, RowOf, children_at, row_definition_kind, fits_at};
-ghost use Rattle.document_rows.specs.Finding.{has_place, element_row_with, is_this, is_parent, seek, serial_in, serial_of_index};
+ghost use Rattle.document_rows.specs.Finding.{has_place, element_row_with, is_this, is_parent, seek, serial_in, serial_of_index, word};
 ghost use Rattle.document_rows.specs.Coming.{coming};
 ghost use Rattle.lookup.specs.Bodies.{rows_from};
 
 mod nexts;
-mod tree;
+pub mod tree;
 
-use form_table::Model;
 use layout::rows::Rows;
+use nexts::Model;
 use rules::{Kind, RowSort};
 use tree::Children;
 
-// Whether a row is the element row with a serial.
+// Whether a row is the element row with a serial. The serial first: most rows have another.
 fn is_element(row: &[u8], element: u32) -> bool
     ensures { result ≡ element_row_with element (read_row row.now).row }
 {
-    (layout::row_sort_of(row) == Some(RowSort::Element)) & (layout::row_serial(row) == element)
+    if layout::row_serial(row) != element {
+        return false;
+    }
+    layout::row_sort_of(row) == Some(RowSort::Element)
 }
 
-// The number of the element row with a serial.
-fn element_at(rows: Rows, element: u32) -> Option<usize>
+/// The number of the element row with a serial.
+pub fn element_at(rows: Rows, element: u32) -> Option<usize>
     ensures { Begins rows.entry.width rows.entry.bytes.now rows.entry.count result (seek (is_this element) (rows_from rows.entry.width rows.entry.bytes.now rows.entry.count 0)) }
 {
     for i in 0..rows.count {
@@ -52,8 +57,8 @@ fn has_child(mut children: Children, element: u32) -> bool
     children.any(|row| is_element(row, element))
 }
 
-// The number of the row right above the element row with a serial.
-fn parent_at(rows: Rows, element: u32) -> Option<usize>
+/// The number of the row right above the element row with a serial.
+pub fn parent_at(rows: Rows, element: u32) -> Option<usize>
     ensures { Begins rows.entry.width rows.entry.bytes.now rows.entry.count result (seek (is_parent element) (rows_from rows.entry.width rows.entry.bytes.now rows.entry.count 0)) }
 {
     for i in 0..rows.count {
@@ -65,6 +70,39 @@ fn parent_at(rows: Rows, element: u32) -> Option<usize>
         }
     }
     None
+}
+
+/// The serial of child number n.
+pub fn nth_serial(mut children: Children, n: usize) -> Option<u32>
+    ensures { result ≡ slice_get (map serial_in (coming children.entry)) n }
+{
+    let row = children.nth(n)?;
+    Some(layout::row_serial(row))
+}
+
+/// The serial of the first child with an index.
+pub fn indexed_serial(mut children: Children, index: usize) -> Option<u32>
+    ensures { result ≡ serial_of_index index (coming children.entry) }
+{
+    let row = children.find(|row| layout::row_index(row) as usize == index)?;
+    Some(layout::row_serial(row))
+}
+
+/// Whether a model takes the children, with a new one at a place and without the one with serial `skip`.
+pub fn children_fit(
+    part: &[u8],
+    children: Children,
+    place: usize,
+    new: usize,
+    skip: u32,
+) -> bool
+    requires { new < 65536 }
+    ensures { result ≡ runs (all_members part.now) 0 (word place new skip (coming children.entry)) }
+{
+    let mut line = next_children::BLANK;
+    next_children::fill(part, 64, &mut line);
+    let model = Model { part, line: &line };
+    nexts::takes(&model, children, place, new, skip)
 }
 
 // ---- in a store
@@ -97,8 +135,7 @@ fn nth_at(store: &[u8], i: usize, sort: RowSort, n: usize) -> Option<u32>
     requires { RowOf store.now i }
     ensures { result ≡ slice_get (map serial_in (children_at store.now (row_number sort) i)) n }
 {
-    let row = children(store, i, sort).nth(n)?;
-    Some(layout::row_serial(row))
+    nth_serial(children(store, i, sort), n)
 }
 
 /// Whether the model of row i's definition takes its children, with a new one at a place and without one.
@@ -108,19 +145,18 @@ pub fn fits_at(store: &[u8], i: usize, place: usize, new: usize, skip: u32) -> b
 {
     let definitions = layout::definitions_of(store);
     let particles = layout::particles_of(store);
-    let definition = row_definition(store, i);
-    let part = form_index::model_part(definitions, particles, definition);
-    let mut line = next_children::BLANK;
-    next_children::fill(part, 64, &mut line);
-    let model = Model {
-        definitions,
-        particles,
-        definition,
-        count: 64,
-        line: &line,
-    };
+    let part = form_index::model_part(definitions, particles, row_definition(store, i));
     let elements = children(store, i, RowSort::Element);
-    nexts::takes(&model, elements, place, new, skip)
+    children_fit(part, elements, place, new, skip)
+}
+
+/// The code of the kind of row i's definition, whatever byte it is.
+pub fn kind_code_at(store: &[u8], i: usize) -> u8
+    requires { RowOf store.now i }
+    ensures { result ≡ row_definition_kind store.now i }
+{
+    let definition = layout::definition_at(layout::definitions_of(store), row_definition(store, i));
+    layout::definition_kind(definition)
 }
 
 /// The kind of row i's definition.
@@ -128,7 +164,7 @@ pub fn kind_at(store: &[u8], i: usize) -> Kind
     requires { RowOf store.now i }
     ensures { result ≡ kind_by (row_definition_kind store.now i) }
 {
-    form_index::content_kind(layout::definitions_of(store), row_definition(store, i))
+    Kind::from(kind_code_at(store, i))
 }
 
 /// The number of the row right above an element row in a store.
@@ -184,7 +220,5 @@ pub fn attribute_row_serial(store: &[u8], i: usize, attribute: usize) -> Option<
     requires { RowOf store.now i }
     ensures { result ≡ serial_of_index attribute (children_at store.now 2 i) }
 {
-    let mut rows = children(store, i, RowSort::Attribute);
-    let row = rows.find(|row| layout::row_index(row) as usize == attribute)?;
-    Some(layout::row_serial(row))
+    indexed_serial(children(store, i, RowSort::Attribute), attribute)
 }

@@ -1,8 +1,27 @@
 //! The rows right below a row.
 ghost use Rattle.std.specs.Prelude.{◌≡◌, ◌<◌};
 ghost use Rattle.rules.specs.Decode.{read_row};
+ghost use Rattle.document_rows.specs.Finding.{NextChild};
 
 use layout::rows::Rows;
+
+/// The number of the first row from `start` on that has a depth and a sort, before any that is less deep.
+// The fields of `Children`, each by itself: what the loop reads stays as it is.
+pub fn next_child(rows: Rows<'_>, start: usize, depth: usize, sort: u8) -> Option<usize>
+    ensures { NextChild rows.entry.width sort depth rows.entry.bytes.now rows.entry.count start result }
+{
+    for i in start..rows.count {
+        let row = rows.row(i);
+        let deep = layout::row_depth(row) as usize;
+        if deep < depth {
+            return None;
+        }
+        if (deep == depth) & (layout::row_sort(row) == sort) {
+            return Some(i);
+        }
+    }
+    None
+}
 
 /// The rows of a depth and a sort from number `at` on, before any that is less deep.
 #[derive(Drop)]
@@ -18,7 +37,7 @@ impl<'a> Children<'a> {
     ghost use Rattle.document_rows.specs.Coming.{coming};
 
     /// The rows of a sort right below row i.
-    pub(crate) fn below(rows: Rows<'a>, i: usize, sort: u8) -> Children<'a>
+    pub fn below(rows: Rows<'a>, i: usize, sort: u8) -> Children<'a>
         requires { i < 4294967296 }
         ensures { coming result ≡ children_below rows.entry.width rows.entry.bytes.now rows.entry.count sort i }
     {
@@ -43,17 +62,8 @@ impl<'a> Iterator for Children<'a> {
     ghost remaining = { item_count coming };
 
     fn next(&mut self) -> Option<&'a [u8]> {
-        for i in self.at..self.rows.count {
-            let row = self.rows.row(i);
-            let depth = layout::row_depth(row) as usize;
-            if depth < self.depth {
-                return None;
-            }
-            if (depth == self.depth) & (layout::row_sort(row) == self.sort) {
-                self.at = i + 1;
-                return Some(row);
-            }
-        }
-        None
+        let i = next_child(self.rows, self.at, self.depth, self.sort)?;
+        self.at = i + 1;
+        Some(self.rows.row(i))
     }
 }

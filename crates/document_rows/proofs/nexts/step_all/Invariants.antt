@@ -1,4 +1,4 @@
-use Rattle.form_table.specs.Lent.{members_of}
+use Rattle.model.specs.Members.{all_members}
 use Rattle.document_rows.specs.Finding.{word}
 use Rattle.document_rows.specs.Coming.{coming}
 use Rattle.document_rows.proofs.StepLaws.{Stepping}
@@ -7,4 +7,4 @@ use Rattle.document_rows.proofs.nexts.step_all.Given as goal
 -- The loop's invariant: from `last`, with the new child `left` places on, those to come decide what all decide.
 abbrev pub invariant-loop-row : goal.invariant-loop-row
 invariant-loop-row l =
-    Stepping (members_of l.model) l.new l.skip (word l.place l.new l.skip (coming l.fn.children)) l.last l.left (coming l.row-iterator)
+    Stepping (all_members l.model.part.now) l.new l.skip (word l.place l.new l.skip (coming l.fn.children)) l.last l.left (coming l.row-iterator)

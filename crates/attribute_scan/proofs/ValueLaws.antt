@@ -99,9 +99,9 @@ unfolding quoted_value
 value_quoted txt quoted raw part n q e r w p =
     p ∙ ap (λ (l : Bytes). take w (value_of_raw l)) (r ∙ ap (λ (k : ℕ). take k quoted) e ∙ leading_take no_quote quoted ∙ ap (front_while no_quote) q)
 
-pub value_laid : (w owner : ℕ) (name part v : Bytes) {out out' : Bytes} {at r : ℕ} → part ≡ v
-    → Laid (attribute_bytes w (attribute_of owner name 2 part)) out at r out' → Laid (attribute_bytes w (attribute_of owner name 2 v)) out at r out'
-value_laid w owner name part v e l = laid_as (ap (λ (u : Bytes). attribute_bytes w (attribute_of owner name 2 u)) (sym e)) l
+pub value_laid : (w owner : ℕ) (name part v : Bytes) (code : ℕ) {out out' : Bytes} {at r : ℕ} → part ≡ v → code ≡ 2
+    → Laid (attribute_bytes w (attribute_of owner name code part)) out at r out' → Laid (attribute_bytes w (attribute_of owner name 2 v)) out at r out'
+value_laid w owner name part v code e f l = laid_as (ap₂ (λ (k : ℕ) (u : Bytes). attribute_bytes w (attribute_of owner name k u)) (sym f) (sym e)) l
 
 pub value_short : (part v : Bytes) (w : ℕ) → part ≡ take w v → length part ≤ w
 value_short part v w e = omega (arith, ap length e, length-take w v)

@@ -35,7 +35,8 @@ fn put_fixed(w: usize, owner: u8, name: &[u8], text: &[u8], out: &mut [u8], at: 
     let mut value = [0; 256];
     let n = text_scan::unescape(raw, &mut value).unwrap_or(0);
     let kept = codec::first(&value, layout::least(n, w));
-    layout_writer::put_attribute(w, owner, name, AttributeSort::Fixed, kept, out, at)
+    let code = u8::from(AttributeSort::Fixed);
+    layout_writer::put_attribute(w, owner, name, code, kept, out, at)
 }
 
 // Writes an attribute by what stands after its type; a required one is filled with `-`.
@@ -45,13 +46,14 @@ fn put_declared(w: usize, owner: u8, name: &[u8], text: &[u8], out: &mut [u8], a
         out.old at result out.new }
 {
     let sort = declared_sort(text);
+    let code = u8::from(sort);
     match sort {
         AttributeSort::Implied => {
-            layout_writer::put_attribute(w, owner, name, sort, codec::first(text, 0), out, at)
+            layout_writer::put_attribute(w, owner, name, code, codec::first(text, 0), out, at)
         }
         AttributeSort::Required => {
             let fill = codec::first(b"-", w);
-            layout_writer::put_attribute(w, owner, name, sort, fill, out, at)
+            layout_writer::put_attribute(w, owner, name, code, fill, out, at)
         }
         AttributeSort::Fixed => put_fixed(w, owner, name, text, out, at),
     }

@@ -32,7 +32,8 @@ pub fn put_added(
     let place = attribute_form::place_of(store, i);
     let w = layout::width_in(store);
     let first = codec::put(codec::first(form, place), out, 0);
-    let second = layout_writer::put_attribute(w, owner as u8, name, sort, value, out, first);
+    let code = u8::from(sort);
+    let second = layout_writer::put_attribute(w, owner as u8, name, code, value, out, first);
     codec::put(codec::after(form, place), out, second)
 }
 

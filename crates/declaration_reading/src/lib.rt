@@ -125,7 +125,7 @@ fn put_definition_line(line: &[u8], out: &mut [u8], at: usize) -> usize
     }
     let content = declaration_scan::after_declared(line);
     let name = declaration_scan::declared_name(line);
-    let kind = declaration_scan::declared_kind(content);
+    let kind = u8::from(declaration_scan::declared_kind(content));
     let measured = model_scan::measure_content(content);
     layout_writer::put_definition(name, kind, measured.count as u32, out, at)
 }

@@ -9,8 +9,6 @@ ghost use Rattle.layout.specs.Bodies.{width_of};
 ghost use Rattle.lookup.specs.Bodies.{bodies_of};
 ghost use Rattle.definition_creation.specs.Bodies.{created};
 
-use rules::Kind;
-
 /// Writes the store with a definition more. The kind is the `u32` that the call was given.
 pub fn put_created(store: &[u8], name: &[u8], kind: u32, out: &mut [u8]) -> usize
     requires { (passes store.now ≡ true) × (length name.now ≤ name_width) × (kind ≤ 2) }
@@ -22,7 +20,6 @@ pub fn put_created(store: &[u8], name: &[u8], kind: u32, out: &mut [u8]) -> usiz
     let rest = layout::through_definitions(d);
     let first = definition_writer::put_header(store, d + 1, p, a, out);
     let second = codec::put(layout::definitions_of(store), out, first);
-    let content = Kind::from(kind as u8);
-    let third = layout_writer::put_definition(name, content, 0, out, second);
+    let third = layout_writer::put_definition(name, kind as u8, 0, out, second);
     codec::put(codec::after(store, rest), out, third)
 }

@@ -2,15 +2,14 @@
 #![tactic(auto)]
 
 ghost use Rattle.std.specs.Prelude.{◌∷◌, ◌+◌, ◌<◌, ◌≤◌, length};
-ghost use Rattle.rules.specs.Layout.{name_width, attribute_size, entry, field, quantifier_code, sort_code, definition_bytes, particle_bytes, attribute_bytes};
-ghost use Rattle.rules.specs.Kinds.{kind_number};
+ghost use Rattle.rules.specs.Layout.{name_width, attribute_size, entry, field, quantifier_code, definition_bytes, particle_bytes, attribute_bytes};
 ghost use Rattle.codec.specs.Laid.{Laid};
 ghost use Rattle.layout.specs.Bodies.{Width};
 ghost use Rattle.layout.specs.RecordBytes.{definition_of, attribute_of, flat_particle, indexed_bytes, owned_bytes, counted_bytes};
 ghost use Rattle.layout.specs.Header.{contents, headed};
 ghost use Rattle.layout_writer.specs.Sorts.{sort_number};
 
-use rules::{AttributeSort, GroupKind, Kind, Quantifier};
+use rules::{GroupKind, Quantifier};
 
 // ---- the header, written
 
@@ -84,34 +83,34 @@ fn put_value(s: &[u8], width: usize, out: &mut [u8], at: usize) -> usize
     put_field(s, width, out, next)
 }
 
-/// Writes a definition.
+/// Writes a definition. Its kind is a byte, whatever it is: a type would shut out those that no kind has.
 // That a name fits is asked in the clauses: a type for a short name would be made and opened in one call.
-pub fn put_definition(name: &[u8], kind: Kind, particles: u32, out: &mut [u8], at: usize) -> usize
+pub fn put_definition(name: &[u8], kind: u8, particles: u32, out: &mut [u8], at: usize) -> usize
     requires { (length name.now ≤ name_width) × (at < 1152921504606846976) }
-    ensures { Laid (definition_bytes (definition_of name.now (kind_number kind) particles)) out.old at result out.new }
+    ensures { Laid (definition_bytes (definition_of name.now kind particles)) out.old at result out.new }
 {
     let a = put_value(name, layout::NAME_WIDTH, out, at);
-    let b = codec::put_u8(out, a, u8::from(kind));
+    let b = codec::put_u8(out, a, kind);
     codec::put_u16(out, b, particles)
 }
 
-/// Writes an attribute.
+/// Writes an attribute. Its sort is a byte, as a definition's kind is.
 // The fields one by one: a struct of them would be written out at each of four calls, and taken apart here.
 pub fn put_attribute(
     w: usize,
     owner: u8,
     name: &[u8],
-    sort: AttributeSort,
+    sort: u8,
     value: &[u8],
     out: &mut [u8],
     at: usize,
 ) -> usize
     requires { Width w × (length name.now ≤ name_width) × (length value.now ≤ w) × (at < 1152921504606846976) }
-    ensures { Laid (attribute_bytes w (attribute_of owner name.now (sort_code sort) value.now)) out.old at result out.new }
+    ensures { Laid (attribute_bytes w (attribute_of owner name.now sort value.now)) out.old at result out.new }
 {
     let a = codec::put_u8(out, at, owner);
     let b = put_value(name, layout::NAME_WIDTH, out, a);
-    let c = codec::put_u8(out, b, u8::from(sort));
+    let c = codec::put_u8(out, b, sort);
     put_value(value, w, out, c)
 }
 

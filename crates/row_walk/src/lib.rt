@@ -7,6 +7,8 @@ ghost use Rattle.rules.specs.RowSorts.{row_number};
 ghost use Rattle.row_walk.specs.Walk.{matches, is_later, spared, shifted, moved_index, is_set, is_below_taken, closes, closed, is_below, is_taken, is_filled, after_taken, at_first};
 ghost use Rattle.row_walk.specs.Step.{valueless, kept_with, ends_due, is_plain, Moves, Fair};
 
+pub mod numbers;
+
 use filling::Filling;
 use rules::RowSort;
 

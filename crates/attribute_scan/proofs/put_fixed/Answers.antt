@@ -17,4 +17,4 @@ returns c =
     let a = c.args in
     let kept = value_quoted a.text.now _ _ _ _ c.after-quoted.ensures c.length_before.ensures c.first-raw.ensures a.w
     (value_kept _ _ _ _ _ _ a.w _ c.unescape.ensures refl c.requires.0 c.unwrap_or-n.ensures c.least.ensures c.first-kept.ensures) in
-    value_laid a.w a.owner a.name.now _ _ kept c.put_attribute.ensures
+    value_laid a.w a.owner a.name.now _ _ _ kept c.from-code.ensures c.put_attribute.ensures

@@ -1,9 +1,12 @@
 -- `attribute_writer::put_added` meets its contract: the form up to attribute i, the new attribute and the rest of the
 -- form, laid one after the other, are the form with it (`added_laid`, `wide_attribute` of Laws); the places are in
 -- range by their lengths (`before_small`, `rest_small` of FormParts, `length_attribute` of LayoutLaws).
+use Prim.Native.Nat.{ℕ}
+use mathlib.Core.Path.{sym, ap}
 use native.Mathlib.Omega.{arith}
-use Rattle.rules.specs.Layout.{sort_code}
+use Rattle.rules.specs.Layout.{attribute_bytes, sort_code}
 use Rattle.rules.proofs.LayoutLaws.{length_attribute}
+use Rattle.codec.proofs.Writers.{laid_as}
 use Rattle.lookup.specs.Bodies.{bodies_of}
 use Rattle.attribute_writer.specs.Attributes.{new_entry}
 use Rattle.attribute_form.proofs.FormParts.{before_small, rest_small}
@@ -40,7 +43,7 @@ put-requires c =
       c.put-first.ensures.next,
       c.put_attribute-second.ensures.next,
       before_small a.store.now x.passes c.form_of-form.ensures c.place_of-place.result c.first.ensures,
-      length_attribute c.width_in-w.result (new_entry a.owner a.name.now (sort_code a.sort) a.value.now),
+      length_attribute c.width_in-w.result (new_entry a.owner a.name.now c.from-code.result a.value.now),
       c.width_in-w.ensures.small,
       rest_small a.store.now x.passes c.form_of-form.ensures c.place_of-place.result c.after.ensures,
     )
@@ -49,5 +52,6 @@ pub returns : goal.returns
 returns c =
     let a = c.args in
     let entry = new_entry a.owner a.name.now (sort_code a.sort) a.value.now in
+    let laid = laid_as (ap (λ (k : ℕ). attribute_bytes c.width_in-w.result (new_entry a.owner a.name.now k a.value.now)) (sym c.from-code.ensures)) c.put_attribute-second.ensures in
     added_laid (bodies_of a.store.now) a.i c.form_of-form.ensures c.place_of-place.ensures c.first.ensures c.put-first.ensures c.requires.1
-    entry c.after.ensures (wide_attribute c.width_in-w.ensures entry c.put_attribute-second.ensures) c.put.ensures
+    entry c.after.ensures (wide_attribute c.width_in-w.ensures entry laid) c.put.ensures

@@ -1,12 +1,7 @@
 -- `definition_creation::put_created` meets its contract: header, definitions, the new definition and what stands after
 -- the definitions, laid one after the other, are the bytes of `created` (`created_laid` of CreatedBytes); a store that
 -- passes is short (`encoded` of Encoded), so the places are in range (`after_header`, `front_short`, `back_short`).
-use Prim.Native.Nat.{ℕ, ◌+◌}
-use mathlib.Core.Path.{sym, ap, ◌∙◌}
-use Rattle.codec.proofs.Writers.{laid_as}
-use Rattle.rules.specs.Layout.{definition_bytes}
-use Rattle.rules.specs.Kinds.{kind_number}
-use Rattle.rules.proofs.KindLaws.{kind_back}
+use Prim.Native.Nat.{◌+◌}
 use Rattle.store_laws.proofs.Encoded.{encoded}
 use Rattle.definition_writer.specs.Bodies.{new_definition}
 use Rattle.definition_creation.proofs.CreatedBytes.{created_laid, after_header, front_short, back_short}
@@ -66,15 +61,13 @@ put-requires c =
           c.attribute_count-a.result c.put_header-first.ensures,
       front_short a.name.now a.kind x c.definitions_of.ensures,
       c.put_definition-third.ensures.next,
-      length_definition (new_definition a.name.now (kind_number c.from-content.result)),
+      length_definition (new_definition a.name.now a.kind),
       back_short a.name.now a.kind x c.through_definitions-rest.result c.after.ensures,
     )
 
 pub returns : goal.returns
 returns c =
     let a = c.args in
-    let kind = ap kind_number c.from-content.ensures ∙ kind_back a.kind c.requires.2 in
-    let new = laid_as (ap (λ (k : ℕ). definition_bytes (new_definition a.name.now k)) (sym kind)) c.put_definition-third.ensures in
     created_laid a.name.now a.kind (encoded a.store.now c.requires.0) c.definition_count-d.ensures c.particle_count-p.ensures
     c.attribute_count-a.ensures c.through_definitions-rest.ensures c.definitions_of.ensures c.after.ensures
-    c.put_header-first.ensures c.put-second.ensures new c.put.ensures
+    c.put_header-first.ensures c.put-second.ensures c.put_definition-third.ensures c.put.ensures

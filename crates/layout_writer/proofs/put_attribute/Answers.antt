@@ -1,12 +1,7 @@
 -- `layout_writer::put_attribute` meets its contract: the owner, the name with its length, the sort and the value with
 -- its length, laid one after the other, are `attribute_bytes` (`attribute_laid` of RecordLaws in `layout`); the places
 -- are in range as the field of the name has 16 bytes (`length_field` of LayoutLaws in `rules`).
-use Prim.Native.Nat.{ℕ}
-use mathlib.Core.Path.{sym, ap}
-use mathlib.Core.List.{[], ◌∷◌}
 use native.Mathlib.Omega.{arith}
-use Rattle.rules.specs.Layout.{sort_code}
-use Rattle.codec.proofs.Writers.{laid_as}
 use Rattle.rules.proofs.LayoutLaws.{length_field}
 use Rattle.layout.proofs.RecordLaws.{attribute_laid}
 use Rattle.layout_writer.proofs.put_attribute.Goals as goal
@@ -30,5 +25,5 @@ put_value-requires c = (
 
 pub returns : goal.returns
 returns c =
-    attribute_laid c.args.w c.args.owner c.args.name.now (sort_code c.args.sort) c.args.value.now c.put_u8-a.ensures
-    c.put_value-b.ensures (laid_as (ap (λ (k : ℕ). k ∷ []) (sym c.from.ensures)) c.put_u8-c.ensures) c.put_value.ensures
+    attribute_laid c.args.w c.args.owner c.args.name.now c.args.sort c.args.value.now c.put_u8-a.ensures
+    c.put_value-b.ensures c.put_u8-c.ensures c.put_value.ensures

@@ -1,12 +1,7 @@
 -- `layout_writer::put_definition` meets its contract: the name with its length, the kind and the number of particles,
 -- laid one after the other, are `definition_bytes` (`definition_laid` of RecordLaws in `layout`); the places are in
 -- range as the field of the name has 16 bytes (`length_field` of LayoutLaws in `rules`).
-use Prim.Native.Nat.{ℕ}
-use mathlib.Core.Path.{sym, ap}
-use mathlib.Core.List.{[], ◌∷◌}
 use native.Mathlib.Omega.{arith}
-use Rattle.rules.specs.Kinds.{kind_number}
-use Rattle.codec.proofs.Writers.{laid_as}
 use Rattle.rules.proofs.LayoutLaws.{length_field}
 use Rattle.layout.proofs.RecordLaws.{definition_laid}
 use Rattle.layout_writer.proofs.put_definition.Goals as goal
@@ -21,5 +16,4 @@ put_u16-requires c =
 
 pub returns : goal.returns
 returns c =
-    definition_laid c.args.name.now (kind_number c.args.kind) c.args.particles c.put_value-a.ensures
-    (laid_as (ap (λ (k : ℕ). k ∷ []) (sym c.from.ensures)) c.put_u8-b.ensures) c.put_u16.ensures
+    definition_laid c.args.name.now c.args.kind c.args.particles c.put_value-a.ensures c.put_u8-b.ensures c.put_u16.ensures

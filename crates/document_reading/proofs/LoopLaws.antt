@@ -75,7 +75,7 @@ module _ {b : Before} {d : Declared} {rows : Option (List (Deep FlatRow))} {s op
     (p : Judging b d rows s opened depth tag m t) where
   -- a token is not exact
   pub judging_inexact : {limit : ℕ} {out out' : Bytes} {p' : Progress} → SomePut b.width d t m opened depth tag limit out 0 None p' out' → Judges b rows None
-  judging_inexact q = record { is = sym (p.is ∙ ap (fit_from b m s) q.is); counts = tt }
+  judging_inexact q = record { is = sym (p.is ∙ ap (fit_from b m s) q.is.rows); counts = tt }
 
   -- some rows were put into an array
   module _ {limit : ℕ} {out : Bytes} {k : Written} {p' : Progress} {out' : Bytes} (q : SomePut b.width d t m opened depth tag limit out 0 (Some k) p' out') where

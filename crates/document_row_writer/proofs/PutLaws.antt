@@ -129,8 +129,8 @@ module _ {w : ℕ} {d : Declared} {txt : Bytes} {m : ℕ} {opened : Bytes} {dept
         → Putting w d txt m opened depth tag limit out at (size + p₂.size) g₂.count g₂.opened g₂.depth g₂.tag out₂ p₂.at
     putting_on q h = record { part = part_then p.part e q.is.part; ceiling = omega (arith, q.is.more) }
 
-    pub putting_refused : {g₂ : Progress} {out₂ : Bytes} → TokenPut w d t m₁ opened₁ depth₁ tag₁ out₁ at₁ None g₂ out₂ → SomePut w d txt m opened depth tag limit out at None g₂ out₂
-    putting_refused q = record { is = part_refused p.part e q.is }
+    pub putting_refused : {g₂ : Progress} {out₂ : Bytes} → TokenPut w d t m₁ opened₁ depth₁ tag₁ out₁ at₁ None g₂ out₂ → rows_here w d m opened depth tag txt ≡ none
+    putting_refused q = part_refused p.part e q.is
 
   -- the loop ends at the end of the text or at the limit
   abbrev Ended : Type 0
@@ -208,7 +208,7 @@ module _ (w : ℕ) (form txt opened : Bytes) (read : RowsRead w form txt) {depth
 -- .. and there are rows
 pub documents_there : (w : ℕ) (form txt opened : Bytes) → RowsRead w form txt → {depth : ℕ} {tag : Bool} {m : ℕ} → Starts depth tag m → {out : Bytes} {at : ℕ}
     {p' : Progress} {out' : Bytes} → SomePut w (declared_in form) txt m opened depth tag 4097 out at None p' out' → ⊥
-documents_there w form txt opened read s p = false≢true (sym (ap is_there (sym (rows_start_lem w form txt opened s) ∙ p.is)) ∙ read.there)
+documents_there w form txt opened read s p = false≢true (sym (ap is_there (sym (rows_start_lem w form txt opened s) ∙ p.is.rows)) ∙ read.there)
 
 pub documents_put : (w : ℕ) (form txt opened : Bytes) → RowsRead w form txt → {depth : ℕ} {tag : Bool} {m : ℕ} → Starts depth tag m → {out : Bytes} {at : ℕ} {k : Written}
     {p' : Progress} {out' : Bytes} → SomePut w (declared_in form) txt m opened depth tag 4097 out at (Some k) p' out'

@@ -98,8 +98,15 @@ pub record SomeRead (w : ℕ) (d : Declared) (txt : Bytes) (m : ℕ) (opened : B
   pub ceiling : m' ≤ limit
   pub ends : m' < limit → length txt ≤ size
 
--- .. or one of them is not exact, and there are no rows
+-- one of them is not exact, and there are no rows: documents go on where they did before
+pub record NoneRead (w : ℕ) (d : Declared) (txt : Bytes) (m : ℕ) (opened : Bytes) (depth : ℕ) (tag : Bool) (p' : Progress) : Type 0 where
+  pub rows : rows_here w d m opened depth tag txt ≡ none
+  pub depth_stays : p'.depth ≡ depth
+  pub tag_stays : p'.tag ≡ tag
+  pub count_stays : p'.count ≡ m
+
+-- the one or the other
 pub record SomePut (w : ℕ) (d : Declared) (txt : Bytes) (m : ℕ) (opened : Bytes) (depth : ℕ) (tag : Bool) (limit : ℕ) (out : Bytes) (at : ℕ)
     (r : code.Option Written) (p' : Progress) (out' : Bytes) : Type 0 where
-  pub is : MatchOption r (rows_here w d m opened depth tag txt ≡ none)
+  pub is : MatchOption r (NoneRead w d txt m opened depth tag p')
       (λ p. SomeRead w d txt m opened depth tag limit out at p.size p'.count p'.opened p'.depth p'.tag out' p.at)

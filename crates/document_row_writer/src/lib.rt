@@ -149,7 +149,8 @@ fn put_token(
     })
 }
 
-/// Goes on reading the documents of a text up to row `limit`, and writes their rows; none if a token is not exact.
+/// Goes on reading the documents of a text up to row `limit`, and writes their rows; none if a token is not exact, and
+/// then the depth, the tag and the count are what they were.
 pub fn put_rows(
     w: usize,
     form: &[u8],
@@ -163,13 +164,19 @@ pub fn put_rows(
     ensures { SomePut w (declared_in form.now) text.now here.old.count here.old.opened here.old.depth here.old.tag limit out.old at result here.new out.new
         × Kept out.old here.new.opened out.new }
 {
+    let (depth, tag, count) = (here.depth, here.tag, here.count);
     let mut value = [0; 256];
     let mut next = at;
     let mut size = 0;
     // A `while`: a token has any number of bytes, and the rows end it too.
     while (size < text.len()) & (here.count < limit) {
         let t = codec::after(text, size);
-        let put = put_token(w, form, here, t, &mut value, out, next)?;
+        let Some(put) = put_token(w, form, here, t, &mut value, out, next) else {
+            here.depth = depth;
+            here.tag = tag;
+            here.count = count;
+            return None;
+        };
         next = put.at;
         size += put.size;
     }

@@ -28,28 +28,31 @@ put_token-requires c =
       omega (arith, p.6, putting_room i.0 p.5),
     )
 
-pub returns-in_err-put : goal.returns-in_err-put
-returns-in_err-put c =
+pub returns-in_default : goal.returns-in_default
+returns-in_default c =
     let i = c.loop-size.invariant in
-    let put = c.in_err-put.ensures in
-    rw c.from_residual.ensures (putting_refused i.0 c.after-t.ensures put.0, record { stack = put.1.stack; long = put.1.long ∙ i.1.long })
+    let put = c.in_default.ensures in
+    let rows = putting_refused i.0 c.after-t.ensures put.0 in (
+      record { is = record { rows = rows; depth_stays = refl; tag_stays = refl; count_stays = refl } },
+      record { stack = put.1.stack; long = put.1.long ∙ i.1.long },
+    )
 
 pub overflow_add-size : goal.overflow_add-size
 overflow_add-size c =
     let i = c.loop-size.invariant in
-    let read = c.in_ok-put.ensures.0.is in
+    let read = c.in-Some.ensures.0.is in
     let known = c.well_formed.1.1.1.1.1.0.0 in
     omega (arith, known, read.part.within, i.0.part.within, ap length c.after-t.ensures, length-drop c.loop-size.size c.args.text.now)
 
 pub loop-size-smaller : goal.loop-size-smaller
 loop-size-smaller c =
-    let read = c.in_ok-put.ensures.0.is in
+    let read = c.in-Some.ensures.0.is in
     omega (arith, read.onward, read.part.within, ap length c.after-t.ensures, length-drop c.loop-size.size c.args.text.now)
 
 pub loop-size-preserved : goal.loop-size-preserved
 loop-size-preserved c =
     let i = c.loop-size.invariant in
-    let put = c.in_ok-put.ensures in
+    let put = c.in-Some.ensures in
     let (unread, few) = goes_on c.loop-size.size (length c.args.text.now) c.loop-size.here.count c.args.limit c.loop-size-test.true in
     (putting_on i.0 c.after-t.ensures put.0 few, record { stack = put.1.stack; long = put.1.long ∙ i.1.long }, put.2 ∙ i.2)
 

@@ -41,11 +41,16 @@ pub fn after_name(text: &[u8]) -> &[u8]
     codec::after(text, n)
 }
 
-// Whether a definition has the name.
+// Whether a definition has the name. The first bytes first: most names of a form begin unlike, and the library's
+// comparison is a call.
 fn is_named(rec: &[u8], name: &[u8]) -> bool
     ensures { result ≡ same name.now (read_definition rec.now).name }
 {
-    codec::equal(name, layout::definition_name(rec))
+    let own = layout::definition_name(rec);
+    if codec::byte(own, 0) != codec::byte(name, 0) {
+        return false;
+    }
+    codec::equal(name, own)
 }
 
 /// Where the definition of a name stands among the first n, if one of them has it.

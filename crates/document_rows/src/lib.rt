@@ -89,13 +89,7 @@ pub fn indexed_serial(mut children: Children, index: usize) -> Option<u32>
 }
 
 /// Whether a model takes the children, with a new one at a place and without the one with serial `skip`.
-pub fn children_fit(
-    part: &[u8],
-    children: Children,
-    place: usize,
-    new: usize,
-    skip: u32,
-) -> bool
+pub fn children_fit(part: &[u8], children: Children, place: usize, new: usize, skip: u32) -> bool
     requires { new < 65536 }
     ensures { result ≡ runs (all_members part.now) 0 (word place new skip (coming children.entry)) }
 {

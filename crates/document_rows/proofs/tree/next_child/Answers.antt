@@ -30,7 +30,7 @@ loop-i-preserved c =
     let y : c.row_sort.result ≡ (read_row (record_at (row_size r.width) c.loop-i.i r.bytes.now)).row.sort =
     c.row_sort.ensures ∙ ap (λ (b : List ℕ). (read_row b).row.sort) c.row-row.ensures in
     sym (step_past r.width a.sort a.depth r.bytes.now r.count c.loop-i.i (omega arith) (omega arith)
-        (sym (ap₂ (λ (u v : ℕ). eqb u a.depth && eqb v a.sort) x y) ∙ c.if-deep-depth-2.false)) ∙ c.loop-i.invariant
+    (sym (ap₂ (λ (u v : ℕ). eqb u a.depth && eqb v a.sort) x y) ∙ c.if-deep-depth-2.false)) ∙ c.loop-i.invariant
 
 pub returns-then-deep-depth-2 : goal.returns-then-deep-depth-2
 returns-then-deep-depth-2 c =

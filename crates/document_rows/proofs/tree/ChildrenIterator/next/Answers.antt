@@ -9,4 +9,3 @@ use Rattle.rules.specs.Layout.{FlatRow}
 use Rattle.rules.specs.Decode.{read_row}
 use Rattle.document_rows.specs.Coming.{coming}
 use Rattle.document_rows.proofs.tree.ChildrenIterator.next.Goals as goal
-

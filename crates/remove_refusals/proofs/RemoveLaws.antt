@@ -328,9 +328,6 @@ module _ (exists : Bool) (s : Bytes) (h : Holder) (p : ℕ) {r : Bytes} {d n : �
   last_read : {v : Bool} → ((ltb 0 d && eqb p h.start) && eqb n 1) ≡ v → ((ltb 0 depth && eqb p h.start) && eqb (how_many (members_from depth (drop (particle_size * p) s))) 1) ≡ v
   last_read k = ap₂ (λ (i j : ℕ). (ltb 0 i && eqb p h.start) && eqb j 1) (sym e) (sym many_read) ∙ k
 
-  pub at_14 : ((ltb 0 d && eqb p h.start) && eqb n 1) ≡ true → Gives 14 (remove_tests exists s h p)
-  at_14 k = gives_hit (last_read k)
-
   module _ (k : ((ltb 0 d && eqb p h.start) && eqb n 1) ≡ false) {a : Bool} (f : a ≡ same_kind h.kind Sequence) where
     fine : (same_kind h.kind Sequence || choice_left s h.start p depth) ≡ true → Gives 0 (remove_tests exists s h p)
     fine z = gives_next (last_read k) (gives_next (and_off exists (not (same_kind h.kind Sequence || choice_left s h.start p depth)) (ap not z)) gives_none)

@@ -51,6 +51,8 @@ impl<'a> Rows<'a> {
     }
 
     // The first part of a walk: the state after these rows, if they may all come.
+    // Not compiled into its callers: the table of one walk is gone before another lays its own.
+    #[inline(never)]
     fn state_after(self) -> Option<[u8; STATE]> {
         let mut state = [0; STATE];
         let mut table = [form_table::BLANK; form_table::TABLE];

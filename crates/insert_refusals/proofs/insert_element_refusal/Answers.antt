@@ -4,9 +4,9 @@
 use mathlib.Core.Path.{ap, ◌∙◌}
 use mathlib.Core.Bool.{not}
 use native.Mathlib.Omega.{arith}
+use borrow.Author.Rules.{rules}
 use Rattle.std.proofs.lemmas.Result.{err_from_is_err_and}
 use Rattle.rules.specs.Given.{refusal_number}
-use Rattle.rules.specs.Model.{skips}
 use Rattle.model_reach.proofs.FormFacts.{reads}
 use Rattle.insert_refusals.proofs.RefusalLaws.{insert_3, insert_4, insert_6, insert_6_too, insert_on}
 use Rattle.insert_refusals.proofs.insert_element_refusal.Goals as goal
@@ -57,5 +57,5 @@ returns c =
     let place = c.place_refusal.ensures in
     let given = insert_on _ (reads _ c.requires) a.owner a.place.now a.definition a.quantifier a.text.now
     c.width_in-w.ensures c.is_value.ensures (ap not c.if-not-is_value.false) c.in_ok-mark.ensures.1 c.definition_count-n.ensures (omega arith)
-    (omega arith) (ap not (c.skips-needed.ensures ∙ ap skips c.in_ok-mark.ensures.0)) place.0 in
+    (omega arith) (search rules) place.0 in
     (given.is, place.1)

@@ -35,7 +35,7 @@ pub fn set_text_refusal(store: &[u8], element: u32, text: &[u8]) -> Result<(), R
         return Err(Refusal::BadValue);
     }
     let i = document_rows::find_element(store, element).ok_or(Refusal::NoRow)?;
-    if document_rows::kind_at(store, i) != Kind::Pcdata {
+    if document_rows::content_kind_at(store, i) != Kind::Pcdata {
         return Err(Refusal::WrongKind);
     }
     Ok(())
@@ -72,7 +72,7 @@ pub fn add_element_refusal(
     if !document_rows::has_place(store, i, child as usize) {
         return Err(Refusal::NoPlace);
     }
-    if document_rows::kind_at(store, i) != Kind::Complex {
+    if document_rows::content_kind_at(store, i) != Kind::Complex {
         return Err(Refusal::NoMatch);
     }
     if !document_rows::fits_at(store, i, child as usize + 1, definition as usize, 0) {

@@ -145,7 +145,7 @@ pub fn fits_at(store: &[u8], i: usize, place: usize, new: usize, skip: u32) -> b
 }
 
 /// The code of the kind of row i's definition, whatever byte it is.
-pub fn kind_code_at(store: &[u8], i: usize) -> u8
+pub fn kind_at(store: &[u8], i: usize) -> u8
     requires { RowOf store.now i }
     ensures { result ≡ row_definition_kind store.now i }
 {
@@ -154,11 +154,11 @@ pub fn kind_code_at(store: &[u8], i: usize) -> u8
 }
 
 /// The kind of row i's definition.
-pub fn kind_at(store: &[u8], i: usize) -> Kind
+pub fn content_kind_at(store: &[u8], i: usize) -> Kind
     requires { RowOf store.now i }
     ensures { result ≡ kind_by (row_definition_kind store.now i) }
 {
-    Kind::from(kind_code_at(store, i))
+    Kind::from(kind_at(store, i))
 }
 
 /// The number of the row right above an element row in a store.

@@ -44,8 +44,8 @@ returns-then-not-has_place c =
     let e = element_there _ w _ (subst (ElementRowAt a.store.now a.parent) c.in_ok-i.ensures.ok_part c.find_element.ensures) in
     (add_8 a.store.now w a.parent a.child a.definition a.text.now c.in_ok-add_document_refusal.ensures refl e c.has_place.ensures (ap not c.if-not-has_place.true)).is
 
-pub kind_at-requires : goal.kind_at-requires
-kind_at-requires c = row_of _ (whole _ c.requires) (subst (ElementRowAt c.args.store.now c.args.parent) c.in_ok-i.ensures.ok_part c.find_element.ensures)
+pub content_kind_at-requires : goal.content_kind_at-requires
+content_kind_at-requires c = row_of _ (whole _ c.requires) (subst (ElementRowAt c.args.store.now c.args.parent) c.in_ok-i.ensures.ok_part c.find_element.ensures)
 
 pub returns-then-ne : goal.returns-then-ne
 returns-then-ne c =
@@ -53,7 +53,7 @@ returns-then-ne c =
     let w : Whole a.store.now = whole _ c.requires in
     let e = element_there _ w _ (subst (ElementRowAt a.store.now a.parent) c.in_ok-i.ensures.ok_part c.find_element.ensures) in
     (add_15 a.store.now w a.parent a.child a.definition a.text.now c.in_ok-add_document_refusal.ensures refl e c.has_place.ensures (ap not c.if-not-has_place.false)
-    (other_kind _ w e (kind_read _ w e c.kind_at.ensures) (fits_at a.store.now c.in_ok-i.i (suc a.child) a.definition 0)
+    (other_kind _ w e (kind_read _ w e c.content_kind_at.ensures) (fits_at a.store.now c.in_ok-i.i (suc a.child) a.definition 0)
     (other_kind_is _ Complex c.ne.ensures c.if-ne.true)) refl).is
 
 pub fits_at-requires : goal.fits_at-requires
@@ -70,7 +70,7 @@ returns-then-not-fits_at c =
     let w : Whole a.store.now = whole _ c.requires in
     let e = element_there _ w _ (subst (ElementRowAt a.store.now a.parent) c.in_ok-i.ensures.ok_part c.find_element.ensures) in
     (add_15 a.store.now w a.parent a.child a.definition a.text.now c.in_ok-add_document_refusal.ensures refl e c.has_place.ensures (ap not c.if-not-has_place.false)
-    (complex_kind _ w e (kind_read _ w e c.kind_at.ensures) (fits_at a.store.now c.in_ok-i.i (suc a.child) a.definition 0)
+    (complex_kind _ w e (kind_read _ w e c.content_kind_at.ensures) (fits_at a.store.now c.in_ok-i.i (suc a.child) a.definition 0)
     (same_kind_is _ Complex c.ne.ensures c.if-ne.false)
     (c.fits_at.ensures ∙ ap (λ (n : ℕ). fits_at a.store.now c.in_ok-i.i n a.definition 0) (add-one a.child))) c.if-not-fits_at.true).is
 
@@ -80,6 +80,6 @@ returns c =
     let w : Whole a.store.now = whole _ c.requires in
     let e = element_there _ w _ (subst (ElementRowAt a.store.now a.parent) c.in_ok-i.ensures.ok_part c.find_element.ensures) in
     (add_0 a.store.now w a.parent a.child a.definition a.text.now c.in_ok-add_document_refusal.ensures refl e c.has_place.ensures (ap not c.if-not-has_place.false)
-    (complex_kind _ w e (kind_read _ w e c.kind_at.ensures) (fits_at a.store.now c.in_ok-i.i (suc a.child) a.definition 0)
+    (complex_kind _ w e (kind_read _ w e c.content_kind_at.ensures) (fits_at a.store.now c.in_ok-i.i (suc a.child) a.definition 0)
     (same_kind_is _ Complex c.ne.ensures c.if-ne.false)
     (c.fits_at.ensures ∙ ap (λ (n : ℕ). fits_at a.store.now c.in_ok-i.i n a.definition 0) (add-one a.child))) c.if-not-fits_at.false).is

@@ -25,19 +25,19 @@ returns-in_err-i c =
     ∙ (text_7 _ w _ _ c.width_in-w.ensures c.is_value.ensures (ap not c.if-not-is_value.false)
     (element_absent _ w _ (subst (ElementRowAt c.args.store.now c.args.element) c.in_err-i.ensures.ok_part c.find_element.ensures))).is)
 
-pub kind_at-requires : goal.kind_at-requires
-kind_at-requires c = row_of _ (whole _ c.requires) (subst (ElementRowAt c.args.store.now c.args.element) c.in_ok-i.ensures.ok_part c.find_element.ensures)
+pub content_kind_at-requires : goal.content_kind_at-requires
+content_kind_at-requires c = row_of _ (whole _ c.requires) (subst (ElementRowAt c.args.store.now c.args.element) c.in_ok-i.ensures.ok_part c.find_element.ensures)
 
 pub returns-then-ne : goal.returns-then-ne
 returns-then-ne c =
     let w : Whole c.args.store.now = whole _ c.requires in
     let f = subst (ElementRowAt c.args.store.now c.args.element) c.in_ok-i.ensures.ok_part c.find_element.ensures in
     (text_9 _ w _ _ c.width_in-w.ensures c.is_value.ensures (ap not c.if-not-is_value.false)
-    (element_there _ w _ f) (kind_read _ w (element_there _ w _ f) c.kind_at.ensures) (other_kind_is _ Pcdata c.ne.ensures c.if-ne.true)).is
+    (element_there _ w _ f) (kind_read _ w (element_there _ w _ f) c.content_kind_at.ensures) (other_kind_is _ Pcdata c.ne.ensures c.if-ne.true)).is
 
 pub returns : goal.returns
 returns c =
     let w : Whole c.args.store.now = whole _ c.requires in
     let f = subst (ElementRowAt c.args.store.now c.args.element) c.in_ok-i.ensures.ok_part c.find_element.ensures in
     (text_0 _ w _ _ c.width_in-w.ensures c.is_value.ensures (ap not c.if-not-is_value.false)
-    (element_there _ w _ f) (kind_read _ w (element_there _ w _ f) c.kind_at.ensures) (same_kind_is _ Pcdata c.ne.ensures c.if-ne.false)).is
+    (element_there _ w _ f) (kind_read _ w (element_there _ w _ f) c.content_kind_at.ensures) (same_kind_is _ Pcdata c.ne.ensures c.if-ne.false)).is

@@ -1,8 +1,8 @@
 -- Rows from a number on: one more is looked at.
 use Prim.Native.Nat.{ℕ, suc, ◌+◌, ◌<◌, ◌≤◌}
 use borrow.Author.Tests.{lt-ltb, le-ltb}
-use mathlib.Core.Path.{◌≡◌, refl, sym, ap, ◌∙◌}
-use mathlib.Core.Bool.{true, false, ◌&&◌}
+use mathlib.Core.Path.{◌≡◌, refl, sym, ap, ap₂, ◌∙◌}
+use mathlib.Core.Bool.{Bool, true, false, ◌&&◌}
 use mathlib.Core.List.{List, [], ◌∷◌}
 use lib.Dec.{eqb}
 use Rattle.rules.specs.Bytes.{Bytes}
@@ -68,6 +68,15 @@ module _ (s d : ℕ) (x : Deep FlatRow) (xs : List (Deep FlatRow)) where
 children_nil : (s d : ℕ) → children s d [] ≡ []
 unfolding children
 children_nil s d = refl
+
+-- what is read of row i where it is lent
+module _ (w i : ℕ) (rows : Bytes) {row : Bytes} (e : row ≡ record_at (row_size w) i rows) {deep : ℕ} (f : deep ≡ (read_row row).depth) where
+  pub depth_read : deep ≡ (row_at w rows i).depth
+  depth_read = f ∙ ap (λ (b : Bytes). (read_row b).depth) e
+
+  pub test_read : (s d : ℕ) {sort : ℕ} → sort ≡ (read_row row).row.sort → {z : Bool} → (eqb deep d && eqb sort s) ≡ z
+      → (eqb (row_at w rows i).depth d && eqb (row_at w rows i).row.sort s) ≡ z
+  test_read s d g t = sym (ap₂ (λ (u v : ℕ). eqb u d && eqb v s) depth_read (g ∙ ap (λ (b : Bytes). (read_row b).row.sort) e)) ∙ t
 
 -- .. from number i on
 module _ (w s d : ℕ) (rows : Bytes) (count i : ℕ) where

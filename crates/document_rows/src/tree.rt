@@ -6,7 +6,8 @@ ghost use Rattle.document_rows.specs.Finding.{NextChild};
 use layout::rows::Rows;
 
 /// The number of the first row from `start` on that has a depth and a sort, before any that is less deep.
-// The fields of `Children`, each by itself: what the loop reads stays as it is.
+// The fields of `Children`, each by itself: what the loop reads stays as it is. The sort is a byte, as the clause speaks
+// of every byte.
 pub fn next_child(rows: Rows<'_>, start: usize, depth: usize, sort: u8) -> Option<usize>
     ensures { NextChild rows.entry.width sort depth rows.entry.bytes.now rows.entry.count start result }
 {

@@ -1,6 +1,6 @@
-//! The test of a row that stays as it is, by a plan that comes as numbers with its marks beside it. So it is told of every
-//! plan, also of one that no `Plan` is: with serials past 32 bits, or with marks of another length than 64.
-ghost use Rattle.std.specs.Prelude.{◌≡◌, [], eqb, get_or};
+//! The test of a row that stays as it is, by a plan that comes as numbers with its marks beside it. So it is told of
+//! every plan, also of one that no `Plan` is: with serials past 32 bits, or with marks of another length than 64.
+ghost use Rattle.std.specs.Prelude.{◌≡◌, []};
 ghost use Rattle.row_walk.specs.Walk.{matches, is_later};
 ghost use Rattle.row_walk.specs.Lent.{which_in, later_in, plan_in, every_if, later_if};
 ghost use Rattle.row_walk.specs.Step.{valueless, is_plain, Moves, Fair};

@@ -1,12 +1,13 @@
 //! What stands in a declaration: names, marks, the places of names, the kind of a definition.
 #![tactic(auto)]
 
-ghost use Rattle.std.specs.Prelude.{◌≡◌, ◌*◌, ◌≤◌, length};
+ghost use Rattle.std.specs.Prelude.{◌≡◌, ◌+◌, ◌*◌, ◌<◌, ◌≤◌, length};
 ghost use Rattle.rules.specs.Bytes.{same};
-ghost use Rattle.rules.specs.Layout.{quantifier_code};
+ghost use Rattle.rules.specs.Layout.{definition_size, quantifier_code};
 ghost use Rattle.rules.specs.Decode.{read_definition};
 ghost use Rattle.rules.specs.Kinds.{kind_number};
 ghost use Rattle.rules.specs.WellFormed.{in_name};
+ghost use Rattle.layout.specs.Bodies.{record_at};
 ghost use Rattle.text_scan.specs.Scan.{after_while};
 ghost use Rattle.declaration_scan.specs.Declared.{mark_code, name_here, place_among, declared_name, after_declared, declared_kind};
 ghost use Rattle.declaration_scan.specs.Names.{NameOf, written_names, PlaceIn};
@@ -41,16 +42,20 @@ pub fn after_name(text: &[u8]) -> &[u8]
     codec::after(text, n)
 }
 
-// Whether a definition has the name. The first bytes first: most names of a form begin unlike, and the library's
-// comparison is a call.
+// Whether a definition has the name.
 fn is_named(rec: &[u8], name: &[u8]) -> bool
     ensures { result ≡ same name.now (read_definition rec.now).name }
 {
-    let own = layout::definition_name(rec);
-    if codec::byte(own, 0) != codec::byte(name, 0) {
-        return false;
-    }
-    codec::equal(name, own)
+    codec::equal(name, layout::definition_name(rec))
+}
+
+// Definition i, which is all there. The reader of a record asks how far the bytes go, at each look.
+fn whole_definition(defs: &[u8], i: usize) -> &[u8]
+    requires { (i < 64) × (20 * (i + 1) ≤ length defs.now) }
+    ensures { result.now ≡ record_at definition_size i defs.now }
+{
+    let at = layout::DEFINITION_SIZE * i;
+    &defs[at..at + layout::DEFINITION_SIZE]
 }
 
 /// Where the definition of a name stands among the first n, if one of them has it.
@@ -58,7 +63,7 @@ pub fn definition_place(defs: &[u8], n: usize, name: &[u8]) -> Option<usize>
     requires { (n ≤ 64) × (20 * n ≤ length defs.now) }
     ensures { PlaceIn n (place_among name.now (written_names n defs.now)) result }
 {
-    (0..n).find(|&i| is_named(layout::definition_at(defs, i), name))
+    (0..n).find(|&i| is_named(whole_definition(defs, i), name))
 }
 
 // ---- the line of a declaration

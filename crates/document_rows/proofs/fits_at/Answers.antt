@@ -1,5 +1,5 @@
--- `document_rows::fits_at` meets its contract: the answer of `children_fit` is `fits_at`, as the children and the model that are
--- read are the store's (`fits_read` of ReaderLaws).
+-- `document_rows::fits_at` meets its contract: the answer of `children_fit` is `fits_at`, as the children and the model
+-- that are read are the store's (`fits_read` of ReaderLaws).
 use mathlib.Core.Path.{ap, ◌∙◌}
 use Rattle.model.specs.Members.{all_members}
 use Rattle.form_index.specs.Reading.{model_part}
